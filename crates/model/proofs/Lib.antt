@@ -1,0 +1,2 @@
+-- The theorems about the definitions.
+pub mod PaperCases

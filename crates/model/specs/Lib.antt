@@ -1,0 +1,6 @@
+-- The definitions: limits and numbers that all share, the reference (for reading), and the step (what the code does).
+pub mod Types
+pub mod Limits
+pub mod Numbers
+pub mod reference
+pub mod step

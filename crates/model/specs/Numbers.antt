@@ -1,0 +1,47 @@
+-- The numbers that the rules give to kinds, faults and refusals, and what an answer shows.
+use Prim.Native.Nat.{ℕ}
+use Rattle.model.specs.Types.{Kind, Read, Write, Root, Asid, Mode, All, Addr, Ctx, AddrCtx, Fault, Alignment, FirstUnmapped, SecondUnmapped, Permission, FirstOutside, SecondOutside, AccessOutside, Refusal, WrongSize, WrongAddress, WrongValue, WrongRoot, WrongContext, WrongMode, WrongLengths, WrongRegisters, UserMode, StalePage, Answer, Done, Faulted, Refused}
+
+-- the place of a kind in the rules' list of operations
+abbrev pub kindNumber : Kind → ℕ
+kindNumber Read = 0
+kindNumber Write = 1
+kindNumber Root = 2
+kindNumber Asid = 3
+kindNumber Mode = 4
+kindNumber All = 5
+kindNumber Addr = 6
+kindNumber Ctx = 7
+kindNumber AddrCtx = 8
+
+abbrev pub faultNumber : Fault → ℕ
+faultNumber Alignment = 1
+faultNumber FirstUnmapped = 2
+faultNumber SecondUnmapped = 3
+faultNumber Permission = 4
+faultNumber FirstOutside = 5
+faultNumber SecondOutside = 6
+faultNumber AccessOutside = 7
+
+abbrev pub refusalNumber : Refusal → ℕ
+refusalNumber WrongSize = 7
+refusalNumber WrongAddress = 8
+refusalNumber WrongValue = 9
+refusalNumber WrongRoot = 10
+refusalNumber WrongContext = 11
+refusalNumber WrongMode = 12
+refusalNumber WrongLengths = 13
+refusalNumber WrongRegisters = 14
+refusalNumber UserMode = 15
+refusalNumber StalePage = 16
+
+-- An answer as the rules name it: `ok` with the value read or 0, `fault` with its number, `refused` with its number.
+pub data Result : Type 0 where
+  ok : ℕ → Result
+  fault : ℕ → Result
+  refused : ℕ → Result
+
+abbrev pub shown : Answer → Result
+shown (Done v) = ok v
+shown (Faulted f) = fault (faultNumber f)
+shown (Refused r) = refused (refusalNumber r)

@@ -1,0 +1,24 @@
+-- The types of src/lib.rt and their constructors, under one roof.
+pub use Rattle.model.specs.declared.Registers.{Registers}
+pub use Rattle.model.specs.declared.Kind.{Kind}
+pub use Rattle.model.specs.declared.Kind.the-variants.{Read, Write, Root, Asid, Mode, All, Addr, Ctx, AddrCtx}
+pub use Rattle.model.specs.declared.Operation.{Operation}
+pub use Rattle.model.specs.declared.Entry.{Entry}
+pub use Rattle.model.specs.declared.Fault.{Fault}
+pub use Rattle.model.specs.declared.Fault.the-variants.{Alignment, FirstUnmapped, SecondUnmapped, Permission, FirstOutside, SecondOutside, AccessOutside}
+pub use Rattle.model.specs.declared.Refusal.{Refusal}
+pub use Rattle.model.specs.declared.Refusal.the-variants.{WrongSize, WrongAddress, WrongValue, WrongRoot, WrongContext, WrongMode, WrongLengths, WrongRegisters, UserMode, StalePage}
+pub use Rattle.model.specs.declared.Answer.{Answer}
+pub use Rattle.model.specs.declared.Answer.the-variants.{Done, Faulted, Refused}
+pub use Rattle.model.specs.declared.Size.{Size}
+pub use Rattle.model.specs.declared.Size.the-variants.{One, Two, Four}
+pub use Rattle.model.specs.declared.Loaded.{Loaded}
+pub use Rattle.model.specs.declared.Loaded.the-variants.{Value, Outside}
+pub use Rattle.model.specs.declared.FirstLevel.{FirstLevel}
+pub use Rattle.model.specs.declared.FirstLevel.the-variants.{Failing, Table, Section}
+pub use Rattle.model.specs.declared.Outcome.{Outcome}
+pub use Rattle.model.specs.declared.Outcome.the-variants.{Mapped, Failed}
+pub use Rattle.model.specs.declared.Check.{Check}
+pub use Rattle.model.specs.declared.Check.the-variants.{Pass, Refuse}
+pub use Rattle.model.specs.declared.Access.{Access}
+pub use Rattle.model.specs.declared.Access.the-variants.{Stale, Fails, Physical}

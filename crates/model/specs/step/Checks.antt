@@ -1,0 +1,132 @@
+-- The checks that stand before an access, in their order.
+use Prim.Native.Nat.{ℕ, _+_, _*_, _/_, _%_}
+use mathlib.Core.Bool.{Bool, true, false, cond}
+use mathlib.Core.List.{List, [], _∷_}
+use lib.Dec.{eqb, leb, ltb}
+use Rattle.model.specs.Limits.{addressLimit, rowSize, rootAlignment, memoryUnit, memoryMost, contextsMost, wordLimit}
+use Rattle.model.specs.Types.{Registers, Operation, Kind, Read, Write, Root, Asid, Mode, All, Addr, Ctx, AddrCtx, Refusal, WrongSize, WrongAddress, WrongValue, WrongRoot, WrongContext, WrongMode, WrongLengths, WrongRegisters, UserMode, Check, Pass, Refuse}
+
+-- whether n bytes can be a memory, and n words a track
+unfoldable pub memoryFits : ℕ → Bool
+memoryFits n = cond (eqb (n % memoryUnit) 0) (cond (leb memoryUnit n) (leb n memoryMost) false) false
+
+unfoldable pub trackFits : ℕ → Bool
+trackFits n = cond (eqb (n % rowSize) 0) (cond (leb rowSize n) (leb n (contextsMost * rowSize)) false) false
+
+unfoldable pub lengthsFit : ℕ → ℕ → Bool
+lengthsFit m t = cond (memoryFits m) (trackFits t) false
+
+unfoldable pub rootFits : ℕ → Bool
+rootFits root = eqb (root % rootAlignment) 0
+
+-- whether registers are in range with k contexts
+unfoldable pub registersFit : Registers → ℕ → Bool
+registersFit r k = cond (rootFits (r .root)) (cond (ltb (r .context) k) (leb (r .mode) 1) false) false
+
+-- Each of the following says whether a kind of operation passes one check.
+abbrev pub isSize : ℕ → Bool
+isSize b = cond (eqb b 1) true (cond (eqb b 2) true (eqb b 4))
+
+unfoldable pub sizeFits : Kind → ℕ → Bool
+sizeFits Read b = isSize b
+sizeFits Write b = isSize b
+sizeFits Root b = true
+sizeFits Asid b = true
+sizeFits Mode b = true
+sizeFits All b = true
+sizeFits Addr b = true
+sizeFits Ctx b = true
+sizeFits AddrCtx b = true
+
+unfoldable pub addressFits : Kind → ℕ → Bool
+addressFits Read a = ltb a addressLimit
+addressFits Write a = ltb a addressLimit
+addressFits Root a = true
+addressFits Asid a = true
+addressFits Mode a = true
+addressFits All a = true
+addressFits Addr a = ltb a addressLimit
+addressFits Ctx a = true
+addressFits AddrCtx a = ltb a addressLimit
+
+abbrev pub fitsSize : ℕ → ℕ → Bool
+fitsSize b c = cond (eqb b 1) (ltb c 256) (cond (eqb b 2) (ltb c 65536) (cond (eqb b 4) (ltb c wordLimit) true))
+
+unfoldable pub valueFits : Kind → ℕ → ℕ → Bool
+valueFits Read b c = true
+valueFits Write b c = fitsSize b c
+valueFits Root b c = true
+valueFits Asid b c = true
+valueFits Mode b c = true
+valueFits All b c = true
+valueFits Addr b c = true
+valueFits Ctx b c = true
+valueFits AddrCtx b c = true
+
+unfoldable pub newRootFits : Kind → ℕ → Bool
+newRootFits Read a = true
+newRootFits Write a = true
+newRootFits Root a = rootFits a
+newRootFits Asid a = true
+newRootFits Mode a = true
+newRootFits All a = true
+newRootFits Addr a = true
+newRootFits Ctx a = true
+newRootFits AddrCtx a = true
+
+unfoldable pub contextFits : Kind → ℕ → ℕ → ℕ → Bool
+contextFits Read a b k = true
+contextFits Write a b k = true
+contextFits Root a b k = true
+contextFits Asid a b k = ltb a k
+contextFits Mode a b k = true
+contextFits All a b k = true
+contextFits Addr a b k = true
+contextFits Ctx a b k = ltb a k
+contextFits AddrCtx a b k = ltb b k
+
+unfoldable pub modeFits : Kind → ℕ → Bool
+modeFits Read a = true
+modeFits Write a = true
+modeFits Root a = true
+modeFits Asid a = true
+modeFits Mode a = leb a 1
+modeFits All a = true
+modeFits Addr a = true
+modeFits Ctx a = true
+modeFits AddrCtx a = true
+
+-- whether the operation may be asked for in this mode
+unfoldable pub mayAsk : Kind → ℕ → Bool
+mayAsk Read mode = true
+mayAsk Write mode = true
+mayAsk Root mode = eqb mode 0
+mayAsk Asid mode = eqb mode 0
+mayAsk Mode mode = true
+mayAsk All mode = eqb mode 0
+mayAsk Addr mode = eqb mode 0
+mayAsk Ctx mode = eqb mode 0
+mayAsk AddrCtx mode = eqb mode 0
+
+-- the checks of an operation on a memory of m bytes and a track of t words: what should hold, and the refusal where it does not
+unfoldable pub checks : Operation → Registers → ℕ → ℕ → List (Bool × Refusal)
+checks o r m t =
+    (lengthsFit m t, WrongLengths)
+    ∷ (registersFit r (t / rowSize), WrongRegisters)
+    ∷ (sizeFits (o .kind) (o .b), WrongSize)
+    ∷ (addressFits (o .kind) (o .a), WrongAddress)
+    ∷ (valueFits (o .kind) (o .b) (o .c), WrongValue)
+    ∷ (newRootFits (o .kind) (o .a), WrongRoot)
+    ∷ (contextFits (o .kind) (o .a) (o .b) (t / rowSize), WrongContext)
+    ∷ (modeFits (o .kind) (o .a), WrongMode)
+    ∷ (mayAsk (o .kind) (r .mode), UserMode)
+    ∷ []
+
+-- the checks of a start
+unfoldable pub startChecks : ℕ → ℕ → ℕ → List (Bool × Refusal)
+startChecks m t root = (lengthsFit m t, WrongLengths) ∷ (rootFits root, WrongRoot) ∷ []
+
+-- the first check that fails
+unfoldable pub firstFailing : List (Bool × Refusal) → Check
+firstFailing [] = Pass
+firstFailing (x ∷ xs) = cond (x .0) (firstFailing xs) (Refuse (x .1))

@@ -1,0 +1,104 @@
+-- Each operation, start, and one step: answer, registers, memory and track.
+use Prim.Native.Nat.{ℕ, _+_, _*_, _/_, _%_}
+use mathlib.Core.Bool.{Bool, true, false, cond}
+use mathlib.Core.List.{List}
+use lib.Dec.{eqb}
+use lib.ListN.{length}
+use Rattle.model.specs.Limits.{pageSize}
+use Rattle.model.specs.step.Memory.{bytesOf, within, numberAt, storedAt}
+use Rattle.model.specs.step.Walk.{walkPage}
+use Rattle.model.specs.step.Rights.{permitted}
+use Rattle.model.specs.step.Track.{noteTrack, flushAll, flushPage, flushContext, flushPageIn, wordAt, staleWord}
+use Rattle.model.specs.step.Checks.{checks, startChecks, firstFailing}
+use Rattle.model.specs.Types.{Registers, Operation, Kind, Read, Write, Root, Asid, Mode, All, Addr, Ctx, AddrCtx, Entry, Alignment, Permission, AccessOutside, Refusal, StalePage, Answer, Done, Faulted, Refused, Size, One, Two, Four, Outcome, Mapped, Failed, Check, Pass, Refuse, Access, Stale, Fails, Physical}
+
+-- What a start or an operation gives: what it returns, and what it leaves in memory and track.
+pub record After : Type 0 where
+  pub answer : Answer
+  pub registers : Registers
+  pub memory : List ℕ
+  pub track : List ℕ
+
+-- carried out: the track is noted with the registers and the memory left
+abbrev pub carried : Answer → Registers → List ℕ → List ℕ → After
+carried x r m t = record { answer = x; registers = r; memory = m; track = noteTrack m (r .root) (r .context) t }
+
+-- turned back: all as given
+abbrev pub turnedBack : Refusal → Registers → List ℕ → List ℕ → After
+turnedBack n r m t = record { answer = Refused n; registers = r; memory = m; track = t }
+
+-- the size that a field names, where it names one
+abbrev pub sizeOf : ℕ → Size
+sizeOf b = cond (eqb b 1) One (cond (eqb b 2) Two Four)
+
+abbrev pub physicalOf : Entry → ℕ → ℕ
+physicalOf e a = e .frame * pageSize + a % pageSize
+
+-- an access to a page with this outcome: permission, then the bytes
+abbrev pub granted : Outcome → ℕ → Bool → Size → ℕ → List ℕ → Access
+granted (Failed f) mode writes size a m = Fails f
+granted (Mapped e) mode writes size a m =
+    cond (permitted (e .ap) mode writes)
+    (cond (within size m (physicalOf e a)) (Physical (physicalOf e a)) (Fails AccessOutside))
+    (Fails Permission)
+
+-- an access to a page with this outcome and track word
+unfoldable pub decided : Outcome → ℕ → ℕ → Bool → Size → ℕ → List ℕ → Access
+decided x w mode writes size a m =
+    cond (eqb (a % bytesOf size) 0) (cond (staleWord w x) Stale (granted x mode writes size a m)) (Fails Alignment)
+
+unfoldable pub accessAt : Registers → List ℕ → List ℕ → Bool → Size → ℕ → Access
+accessAt r m t writes size a =
+    decided (walkPage m (r .root) (a / pageSize)) (wordAt t (r .context) (a / pageSize)) (r .mode) writes size a m
+
+-- a read and a write, by what the access comes to
+abbrev pub readFrom : Access → Size → Registers → List ℕ → List ℕ → After
+readFrom Stale size r m t = turnedBack StalePage r m t
+readFrom (Fails f) size r m t = carried (Faulted f) r m t
+readFrom (Physical p) size r m t = carried (Done (numberAt size m p)) r m t
+
+abbrev pub writeTo : Access → Size → ℕ → Registers → List ℕ → List ℕ → After
+writeTo Stale size v r m t = turnedBack StalePage r m t
+writeTo (Fails f) size v r m t = carried (Faulted f) r m t
+writeTo (Physical p) size v r m t = carried (Done 0) r (storedAt size m p v) t
+
+unfoldable pub readStep : ℕ → Size → Registers → List ℕ → List ℕ → After
+readStep a size r m t = readFrom (accessAt r m t false size a) size r m t
+
+unfoldable pub writeStep : ℕ → Size → ℕ → Registers → List ℕ → List ℕ → After
+writeStep a size v r m t = writeTo (accessAt r m t true size a) size v r m t
+
+-- an operation that has passed the checks
+unfoldable pub operate : Kind → Operation → Registers → List ℕ → List ℕ → After
+operate Read o r m t = readStep (o .a) (sizeOf (o .b)) r m t
+operate Write o r m t = writeStep (o .a) (sizeOf (o .b)) (o .c) r m t
+operate Root o r m t = carried (Done 0) (record { root = o .a; context = r .context; mode = r .mode }) m t
+operate Asid o r m t = carried (Done 0) (record { root = r .root; context = o .a; mode = r .mode }) m t
+operate Mode o r m t = carried (Done 0) (record { root = r .root; context = r .context; mode = o .a }) m t
+operate All o r m t = carried (Done 0) r m (flushAll t)
+operate Addr o r m t = carried (Done 0) r m (flushPage (o .a / pageSize) t)
+operate Ctx o r m t = carried (Done 0) r m (flushContext (o .a) t)
+operate AddrCtx o r m t = carried (Done 0) r m (flushPageIn (o .b) (o .a / pageSize) t)
+
+abbrev pub checked : Check → Operation → Registers → List ℕ → List ℕ → After
+checked (Refuse n) o r m t = turnedBack n r m t
+checked Pass o r m t = operate (o .kind) o r m t
+
+-- one operation
+unfoldable pub stepped : Operation → Registers → List ℕ → List ℕ → After
+stepped o r m t = checked (firstFailing (checks o r (length m) (length t))) o r m t
+
+-- registers at start, and those that a refused start returns
+abbrev pub startRegisters : ℕ → Registers
+startRegisters root = record { root = root; context = 0; mode = 0 }
+
+abbrev pub zeroRegisters : Registers
+zeroRegisters = record { root = 0; context = 0; mode = 0 }
+
+abbrev pub startedBy : Check → List ℕ → List ℕ → ℕ → After
+startedBy (Refuse n) m t root = turnedBack n zeroRegisters m t
+startedBy Pass m t root = carried (Done 0) (startRegisters root) m (flushAll t)
+
+-- start: context 0, kernel mode, the track emptied and noted
+unfoldable pub started : List ℕ → List ℕ → ℕ → After
+started m t root = startedBy (firstFailing (startChecks (length m) (length t) root)) m t root

@@ -1,0 +1,65 @@
+-- The walk of two-level tables, by page number.
+use Prim.Native.Nat.{ℕ, _+_, _*_, _/_, _%_}
+use mathlib.Core.Bool.{Bool, true, false, cond}
+use mathlib.Core.List.{List}
+use lib.Dec.{eqb}
+use Rattle.model.specs.step.Memory.{loadAt}
+use Rattle.model.specs.Types.{Entry, FirstUnmapped, SecondUnmapped, FirstOutside, SecondOutside, Four, Loaded, Value, Outside, FirstLevel, Failing, Table, Section, Outcome, Mapped, Failed}
+
+-- the AP of a section's word, and of a page's
+abbrev pub sectionAp : ℕ → ℕ
+sectionAp w = w / 32768 % 2 * 4 + w / 1024 % 4
+
+abbrev pub pageAp : ℕ → ℕ
+pageAp w = w / 512 % 2 * 4 + w / 16 % 4
+
+-- the entries of the three kinds of mapping, for one page
+abbrev pub sectionEntry : ℕ → ℕ → Entry
+sectionEntry w page = record { frame = w / 1048576 % 4096 * 256 + page % 256; ap = sectionAp w }
+
+abbrev pub largeEntry : ℕ → ℕ → Entry
+largeEntry w page = record { frame = w / 65536 % 65536 * 16 + page % 16; ap = pageAp w }
+
+abbrev pub smallEntry : ℕ → Entry
+smallEntry w = record { frame = w / 4096 % 1048576; ap = pageAp w }
+
+-- a descriptor is a word of memory
+abbrev pub descriptorAt : List ℕ → ℕ → Loaded
+descriptorAt m at = loadAt Four m at
+
+-- what a level-one word says of a page
+unfoldable pub firstOf : ℕ → ℕ → FirstLevel
+firstOf w page =
+    cond (eqb (w % 4) 1) (Table (w / 1024 % 4194304 * 1024))
+    (cond (eqb (w % 4) 2)
+    (cond (eqb (w / 262144 % 2) 0) (Section (sectionEntry w page)) (Failing FirstUnmapped))
+    (Failing FirstUnmapped))
+
+abbrev pub firstFrom : Loaded → ℕ → FirstLevel
+firstFrom (Value w) page = firstOf w page
+firstFrom Outside page = Failing FirstOutside
+
+unfoldable pub firstAt : List ℕ → ℕ → ℕ → FirstLevel
+firstAt m root page = firstFrom (descriptorAt m (root + 4 * (page / 256))) page
+
+-- what a level-two word says of a page
+unfoldable pub secondOf : ℕ → ℕ → Outcome
+secondOf w page =
+    cond (eqb (w % 4) 0) (Failed SecondUnmapped)
+    (cond (eqb (w % 4) 1) (Mapped (largeEntry w page)) (Mapped (smallEntry w)))
+
+abbrev pub secondFrom : Loaded → ℕ → Outcome
+secondFrom (Value w) page = secondOf w page
+secondFrom Outside page = Failed SecondOutside
+
+unfoldable pub secondAt : List ℕ → ℕ → ℕ → Outcome
+secondAt m table page = secondFrom (descriptorAt m (table + 4 * (page % 256))) page
+
+-- the whole walk
+abbrev pub walkFrom : FirstLevel → List ℕ → ℕ → Outcome
+walkFrom (Failing f) m page = Failed f
+walkFrom (Section e) m page = Mapped e
+walkFrom (Table table) m page = secondAt m table page
+
+unfoldable pub walkPage : List ℕ → ℕ → ℕ → Outcome
+walkPage m root page = walkFrom (firstAt m root page) m page

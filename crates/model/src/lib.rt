@@ -1,0 +1,113 @@
+// The types of the machine: registers, operations, answers, entries and what a walk finds. Their meaning in numbers
+// stands in specs/Numbers.antt.
+
+// The registers: the address of the level-one table, the current context (an ASID) and the mode, 0 kernel or 1 user.
+pub struct Registers {
+    pub root: u32,
+    pub context: u32,
+    pub mode: u32,
+}
+
+// The kinds of operation, in the order of the rules.
+pub enum Kind {
+    Read,
+    Write,
+    Root,
+    Asid,
+    Mode,
+    All,
+    Addr,
+    Ctx,
+    AddrCtx,
+}
+
+// An operation with its three fields.
+pub struct Operation {
+    pub kind: Kind,
+    pub a: u32,
+    pub b: u32,
+    pub c: u32,
+}
+
+// What a page maps to: the number of its 4 KiB frame, and its access permissions AP[2:0].
+pub struct Entry {
+    pub frame: u32,
+    pub ap: u32,
+}
+
+// Why an operation carried out gave no value.
+pub enum Fault {
+    Alignment,
+    FirstUnmapped,
+    SecondUnmapped,
+    Permission,
+    FirstOutside,
+    SecondOutside,
+    AccessOutside,
+}
+
+// Why an operation or a start was turned back.
+pub enum Refusal {
+    WrongSize,
+    WrongAddress,
+    WrongValue,
+    WrongRoot,
+    WrongContext,
+    WrongMode,
+    WrongLengths,
+    WrongRegisters,
+    UserMode,
+    StalePage,
+}
+
+// What a start or an operation answers: carried out with a value, carried out with a fault, or turned back.
+pub enum Answer {
+    Done(u32),
+    Faulted(Fault),
+    Refused(Refusal),
+}
+
+// What a start or an operation returns; memory and track are lent.
+pub struct Returned {
+    pub answer: Answer,
+    pub registers: Registers,
+}
+
+// The sizes of a number in memory.
+pub enum Size {
+    One,
+    Two,
+    Four,
+}
+
+// What reading a number in memory finds.
+pub enum Loaded {
+    Value(u32),
+    Outside,
+}
+
+// What the level-one descriptor of a page says.
+pub enum FirstLevel {
+    Failing(Fault),
+    Table(u32),
+    Section(Entry),
+}
+
+// What the walk of a page finds.
+pub enum Outcome {
+    Mapped(Entry),
+    Failed(Fault),
+}
+
+// Whether the checks before an access let an operation pass.
+pub enum Check {
+    Pass,
+    Refuse(Refusal),
+}
+
+// What an access comes to: its page is stale, it faults, or its bytes lie at a physical address.
+pub enum Access {
+    Stale,
+    Fails(Fault),
+    Physical(usize),
+}
