@@ -1,2 +1,6 @@
 -- The theorems about the definitions.
-pub mod PaperCases
+pub mod Tests
+pub mod Memory
+pub mod Walk
+pub mod Rights
+pub mod Checks

@@ -1,0 +1,87 @@
+-- The step's walk by page is the reference's walk by address.
+use Prim.Native.Nat.{ℕ, suc, _+_, _*_, _-_, _/_, _%_, _^_}
+use mathlib.Core.Path.{_≡_, refl, sym, ap, _∙_}
+use mathlib.Core.Bool.{Bool, true, false, cond, _&&_}
+use mathlib.Core.List.{List}
+use native.Mathlib.Omega.{arith}
+use lib.Dec.{eqb}
+use Rattle.model.specs.Limits.{pageSize, sectionSize}
+use Rattle.model.specs.Numbers.{faultNumber}
+use Rattle.model.specs.reference.Map.{Translation, found, failed, inMemory, value, bits, descriptor, section, largePage, smallPage, pageWord, levelTwo, tableWord, walk}
+use Rattle.model.specs.step.Memory.{within, numberAt, loadAt}
+use Rattle.model.specs.step.Walk.{sectionEntry, largeEntry, smallEntry, descriptorAt, firstOf, firstFrom, firstAt, secondOf, secondFrom, secondAt, walkFrom, walkPage}
+use Rattle.model.specs.Types.{Entry, FirstUnmapped, SecondUnmapped, Four, Loaded, Value, Outside, FirstLevel, Failing, Table, Section, Outcome, Mapped, Failed}
+use Rattle.model.proofs.Tests.{push}
+use Rattle.model.proofs.Memory.{within-same, number-same}
+
+-- an outcome as the reference has it
+abbrev pub translation : Outcome → Translation
+translation (Mapped e) = found e
+translation (Failed f) = failed (faultNumber f)
+
+-- the entries of the three kinds of mapping
+section-same : (a w : ℕ) → sectionEntry w (a / pageSize) ≡ section a w
+unfolding section bits
+section-same a w = refl
+
+large-same : (a w : ℕ) → largeEntry w (a / pageSize) ≡ largePage a w
+unfolding largePage bits
+large-same a w = refl
+
+small-same : (w : ℕ) → smallEntry w ≡ smallPage w
+unfolding smallPage bits
+small-same w = refl
+
+kind-same : (w : ℕ) → w % 4 ≡ bits 1 0 w
+unfolding bits
+kind-same w = omega arith
+
+-- level two
+second-tests : (a w : ℕ) (x y : Bool) →
+    translation (cond x (Failed SecondUnmapped) (cond y (Mapped (largeEntry w (a / pageSize))) (Mapped (smallEntry w))))
+    ≡ cond x (failed 3) (cond y (found (largePage a w)) (found (smallPage w)))
+second-tests a w true y = refl
+second-tests a w false true = ap found (large-same a w)
+second-tests a w false false = ap found (small-same w)
+
+second-same : (a w : ℕ) → translation (secondOf w (a / pageSize)) ≡ pageWord a w
+unfolding secondOf pageWord
+second-same a w = rw (sym (kind-same w)) (second-tests a w (eqb (w % 4) 0) (eqb (w % 4) 1))
+
+secondAt-same : (m : List ℕ) (table a : ℕ) → translation (secondAt m table (a / pageSize)) ≡ levelTwo m table a
+unfolding secondAt levelTwo descriptor loadAt
+secondAt-same m table a =
+    let at : ℕ = table + 4 * (a / pageSize % 256) in
+    push (λ x. translation (secondFrom x (a / pageSize))) (within Four m at) (Value (numberAt Four m at)) Outside
+    ∙ ap (λ n. cond (within Four m at) n (failed 6)) (second-same a (numberAt Four m at) ∙ ap (pageWord a) (number-same Four m at))
+    ∙ ap (λ b. cond b (pageWord a (value m at 4)) (failed 6)) (within-same Four m at)
+
+-- level one
+first-tests : (m : List ℕ) (a w : ℕ) (x y z : Bool) →
+    translation (walkFrom (cond x (Table (w / 1024 % 4194304 * 1024)) (cond y (cond z (Section (sectionEntry w (a / pageSize))) (Failing FirstUnmapped)) (Failing FirstUnmapped))) m (a / pageSize))
+    ≡ cond x (levelTwo m (bits 31 10 w * 1024) a) (cond (y && z) (found (section a w)) (failed 2))
+unfolding bits
+first-tests m a w true y z = secondAt-same m (w / 1024 % 4194304 * 1024) a
+first-tests m a w false true true = ap found (section-same a w)
+first-tests m a w false true false = refl
+first-tests m a w false false z = refl
+
+super-same : (w : ℕ) → w / 262144 % 2 ≡ bits 18 18 w
+unfolding bits
+super-same w = refl
+
+first-same : (m : List ℕ) (a w : ℕ) → translation (walkFrom (firstOf w (a / pageSize)) m (a / pageSize)) ≡ tableWord m a w
+unfolding firstOf tableWord
+first-same m a w = rw (sym (kind-same w), sym (super-same w)) (first-tests m a w (eqb (w % 4) 1) (eqb (w % 4) 2) (eqb (w / 262144 % 2) 0))
+
+place-same : (root a : ℕ) → root + 4 * (a / pageSize / 256) ≡ root + 4 * (a / sectionSize)
+place-same root a = omega arith
+
+pub walk-same : (m : List ℕ) (root a : ℕ) → translation (walkPage m root (a / pageSize)) ≡ walk m root a
+unfolding walkPage firstAt walk descriptor loadAt
+walk-same m root a =
+    let at : ℕ = root + 4 * (a / sectionSize) in
+    ap (λ i. translation (walkFrom (firstFrom (descriptorAt m i) (a / pageSize)) m (a / pageSize))) (place-same root a)
+    ∙ push (λ x. translation (walkFrom (firstFrom x (a / pageSize)) m (a / pageSize))) (within Four m at) (Value (numberAt Four m at)) Outside
+    ∙ ap (λ n. cond (within Four m at) n (failed 5)) (first-same m a (numberAt Four m at) ∙ ap (tableWord m a) (number-same Four m at))
+    ∙ ap (λ b. cond b (tableWord m a (value m at 4)) (failed 5)) (within-same Four m at)
