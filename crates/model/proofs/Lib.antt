@@ -4,3 +4,4 @@ pub mod Memory
 pub mod Walk
 pub mod Rights
 pub mod Checks
+pub mod Rows
