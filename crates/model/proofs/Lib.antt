@@ -5,3 +5,4 @@ pub mod Walk
 pub mod Rights
 pub mod Checks
 pub mod Rows
+pub mod Words

@@ -11,6 +11,11 @@ pub push : {A B : Type 0} (f : A → B) (b : Bool) (x y : A) → f (cond b x y) 
 push f true x y = refl
 push f false x y = refl
 
+-- both parts of a conjunction hold
+pub and-both : (x y : Bool) → (x && y) ≡ true → (x ≡ true) × (y ≡ true)
+and-both true y p = (refl, p)
+and-both false y p = absurd (true≢false (sym p))
+
 -- whether a test holds of each number below n
 unfoldable pub allBelow : ℕ → (ℕ → Bool) → Bool
 allBelow zero test = true
@@ -20,16 +25,10 @@ allBelow (suc n) test = test n && allBelow n test
 pub at-each : (n : ℕ) (test : ℕ → Bool) → allBelow n test ≡ true → (i : ℕ) → i < n → test i ≡ true
 unfolding allBelow
 at-each zero test h i lt = absurd (let z : ⊥ = omega arith in z)
-at-each (suc n) test h i lt = go (at-each n test (right (test n) (allBelow n test) h) i) (eqb i n) refl
+at-each (suc n) test h i lt = go (at-each n test (and-both (test n) (allBelow n test) h .1) i) (eqb i n) refl
   where
-    left : (a b : Bool) → (a && b) ≡ true → a ≡ true
-    left true b p = refl
-    left false b p = p
-    right : (a b : Bool) → (a && b) ≡ true → b ≡ true
-    right true b p = p
-    right false b p = absurd (true≢false (sym p))
     go : (i < n → test i ≡ true) → (b : Bool) → eqb i n ≡ b → test i ≡ true
-    go below true e = ap test (eqb-true i n e) ∙ left (test n) (allBelow n test) h
+    go below true e = ap test (eqb-true i n e) ∙ and-both (test n) (allBelow n test) h .0
     go below false e = let ne = eqb-false i n e in below (omega arith)
 
 -- two functions that a computed test finds equal below n, and that are equal from n on

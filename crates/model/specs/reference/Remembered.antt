@@ -6,7 +6,8 @@ use lib.Dec.{eqb}
 use lib.ListN.{getD}
 use Rattle.model.specs.Limits.{pageSize, rowSize}
 use Rattle.model.specs.reference.Map.{Translation, found, failed, bits}
-use Rattle.model.specs.Types.{Entry}
+use Rattle.model.specs.reference.Plain.{State, outcome, flushes}
+use Rattle.model.specs.Types.{Entry, Operation}
 
 -- Of a set of entries a word keeps: it is empty, it has one entry, or it has two or more different ones.
 pub data Kept : Type 0 where
@@ -45,6 +46,14 @@ differs empty x = false
 differs (one e) (found x) = not (same e x)
 differs (one e) (failed n) = true
 differs several x = true
+
+-- For all pages, one that the tables map in the context now current has its entry added.
+unfoldable pub notedIn : State → ℕ → ℕ → ℕ → ℕ
+notedIn s context page w = cond (eqb context (s .registers .context)) (noted (outcome s (page * pageSize)) w) w
+
+-- The word of a context and page after an operation that left the state s: a flush empties the sets it names, then noting follows.
+unfoldable pub wordAfter : Operation → State → ℕ → ℕ → ℕ → ℕ
+wordAfter o s context page w = notedIn s context page (cond (flushes (o .kind) o context page) 0 w)
 
 -- the word of a context and a page in the track
 unfoldable pub trackWord : List ℕ → ℕ → ℕ → ℕ

@@ -1,0 +1,158 @@
+-- One word of the track: the step's adding and its stale test are the reference's.
+use Prim.Native.Nat.{ℕ, suc, _+_, _*_, _-_, _/_, _%_, _^_, _<_}
+use mathlib.Core.Path.{_≡_, refl, sym, ap, ap₂, _∙_}
+use mathlib.Core.Bool.{Bool, true, false, cond, not, _&&_}
+use mathlib.Core.List.{List}
+use native.Mathlib.Nat.{mod-eq-of-lt}
+use native.Mathlib.Omega.{arith}
+use lib.Dec.{eqb, ltb}
+use borrow.Author.Tests.{eqb-true, eqb-false, eq-eqb, ne-eqb, ltb-true, ltb-false, lt-ltb, le-ltb}
+use Rattle.model.specs.Limits.{wordLimit}
+use Rattle.model.specs.Numbers.{faultNumber}
+use Rattle.model.specs.reference.Map.{Translation, found, failed, bits}
+use Rattle.model.specs.reference.Remembered.{Kept, empty, one, several, wordOf, entryOf, kept, same, addTo, noted, differs}
+use Rattle.model.specs.step.Memory.{loadAt}
+use Rattle.model.specs.step.Walk.{firstOf, firstFrom, firstAt, secondOf, secondFrom, secondAt, walkFrom, walkPage, sectionEntry, largeEntry, smallEntry, descriptorAt}
+use Rattle.model.specs.step.Track.{entryWord, isEntry, addEntry, addOutcome, staleWord}
+use Rattle.model.specs.Types.{Entry, FirstUnmapped, SecondUnmapped, Loaded, Value, Outside, FirstLevel, Failing, Table, Section, Outcome, Mapped, Failed}
+use Rattle.model.proofs.Tests.{same-test, eqb-same, and-both}
+use Rattle.model.proofs.Walk.{translation}
+
+-- a frame number of 20 bits and an AP of 3
+abbrev pub Fits : Entry → Type 0
+Fits e = (e .frame < 1048576) × (e .ap < 8)
+
+abbrev pub InRange : Outcome → Type 0
+InRange (Mapped e) = Fits e
+InRange (Failed f) = Unit {0}
+
+-- ── Each entry that a walk finds is in range ──
+
+second-range : (w page : ℕ) → InRange (secondOf w page)
+unfolding secondOf
+second-range w page = go (eqb (w % 4) 0) (eqb (w % 4) 1)
+  where
+    go : (x y : Bool) → InRange (cond x (Failed SecondUnmapped) (cond y (Mapped (largeEntry w page)) (Mapped (smallEntry w))))
+    go true y = tt
+    go false true = (omega arith, omega arith)
+    go false false = (omega arith, omega arith)
+
+second-from : (x : Loaded) (page : ℕ) → InRange (secondFrom x page)
+second-from (Value w) page = second-range w page
+second-from Outside page = tt
+
+first-range : (m : List ℕ) (w page : ℕ) → InRange (walkFrom (firstOf w page) m page)
+unfolding firstOf secondAt
+first-range m w page = go (eqb (w % 4) 1) (eqb (w % 4) 2) (eqb (w / 262144 % 2) 0)
+  where
+    go : (x y z : Bool) →
+        InRange (walkFrom (cond x (Table (w / 1024 % 4194304 * 1024)) (cond y (cond z (Section (sectionEntry w page)) (Failing FirstUnmapped)) (Failing FirstUnmapped))) m page)
+    go true y z = second-from (descriptorAt m (w / 1024 % 4194304 * 1024 + 4 * (page % 256))) page
+    go false true true = (omega arith, omega arith)
+    go false true false = tt
+    go false false z = tt
+
+first-from : (m : List ℕ) (x : Loaded) (page : ℕ) → InRange (walkFrom (firstFrom x page) m page)
+first-from m (Value w) page = first-range m w page
+first-from m Outside page = tt
+
+pub walk-range : (m : List ℕ) (root page : ℕ) → InRange (walkPage m root page)
+unfolding walkPage firstAt
+walk-range m root page = first-from m (descriptorAt m (root + 4 * (page / 256))) page
+
+-- ── Words of entries ──
+
+word-same : (e : Entry) → Fits e → entryWord e ≡ wordOf e
+unfolding wordOf
+word-same e h = omega arith
+
+-- a word stands for one entry exactly if it is the word of its entry
+single-same : (w : ℕ) → isEntry w ≡ eqb w (wordOf (entryOf w))
+unfolding isEntry wordOf entryOf bits
+single-same w = go (ltb w wordLimit) refl
+  where
+    low : w < wordLimit → eqb (w % 512) 2 ≡ eqb w (w / 4096 % 1048576 * 4096 + w / 512 % 8 * 512 + 2)
+    low h = eqb-same (w % 512) 2 w (w / 4096 % 1048576 * 4096 + w / 512 % 8 * 512 + 2) (λ q. omega arith) (λ q. omega arith)
+    go : (b : Bool) → ltb w wordLimit ≡ b → cond b (eqb (w % 512) 2) false ≡ eqb w (w / 4096 % 1048576 * 4096 + w / 512 % 8 * 512 + 2)
+    go true e = low (ltb-true w wordLimit e)
+    go false e = let h = ltb-false w wordLimit e in sym (ne-eqb w (w / 4096 % 1048576 * 4096 + w / 512 % 8 * 512 + 2) (omega arith))
+
+-- the word of an entry gives its frame and its AP back
+pub decoded : (e : Entry) → Fits e → entryOf (wordOf e) ≡ e
+unfolding wordOf entryOf bits
+decoded e h = λ i. record { frame = frame-is i; ap = ap-is i }
+  where
+    upper : (e .frame * 4096 + e .ap * 512 + 2) / 4096 ≡ e .frame
+    upper = omega arith
+    frame-is : (e .frame * 4096 + e .ap * 512 + 2) / 4096 % 1048576 ≡ e .frame
+    frame-is = ap (λ n. n % 1048576) upper ∙ mod-eq-of-lt (h .0)
+    lower : (e .frame * 4096 + e .ap * 512 + 2) / 512 ≡ e .frame * 8 + e .ap
+    lower = omega arith
+    ap-is : (e .frame * 4096 + e .ap * 512 + 2) / 512 % 8 ≡ e .ap
+    ap-is = ap (λ n. n % 8) lower ∙ (let q : (e .frame * 8 + e .ap) % 8 ≡ e .ap = omega arith in q)
+
+-- of a word that stands for one entry: it is the word of e exactly if its entry is e
+entry-same : (w : ℕ) (e : Entry) → Fits e → w ≡ wordOf (entryOf w) → eqb w (entryWord e) ≡ same (entryOf w) e
+unfolding wordOf entryOf bits same
+entry-same w e h is = same-test (eqb w (entryWord e)) (eqb (w / 4096 % 1048576) (e .frame) && eqb (w / 512 % 8) (e .ap)) to from
+  where
+    to : eqb w (entryWord e) ≡ true → same (entryOf w) e ≡ true
+    to p =
+        let q : entryOf w ≡ e = ap entryOf (eqb-true w (entryWord e) p ∙ word-same e h) ∙ decoded e h in
+        rw (eq-eqb (entryOf w .frame) (e .frame) (ap (λ (x : Entry). x .frame) q), eq-eqb (entryOf w .ap) (e .ap) (ap (λ (x : Entry). x .ap) q))
+    from : (eqb (w / 4096 % 1048576) (e .frame) && eqb (w / 512 % 8) (e .ap)) ≡ true → eqb w (entryWord e) ≡ true
+    from p =
+        let q = and-both (eqb (w / 4096 % 1048576) (e .frame)) (eqb (w / 512 % 8) (e .ap)) p in
+        let frames : w / 4096 % 1048576 ≡ e .frame = eqb-true (w / 4096 % 1048576) (e .frame) (q .0) in
+        let aps : w / 512 % 8 ≡ e .ap = eqb-true (w / 512 % 8) (e .ap) (q .1) in
+        eq-eqb w (entryWord e) (omega arith)
+
+pub add-same : (w : ℕ) (e : Entry) → Fits e → addEntry w (entryWord e) ≡ addTo (kept w) e w
+unfolding addEntry kept addTo
+add-same w e h = rw (single-same w) (go (eqb w 0) (eqb w (wordOf (entryOf w))) refl)
+  where
+    other : (b : Bool) → cond b w w ≡ w
+    other true = refl
+    other false = refl
+    go : (x y : Bool) → eqb w (wordOf (entryOf w)) ≡ y →
+        cond x (entryWord e) (cond (eqb w (entryWord e)) w (cond y 1 w)) ≡ addTo (cond x empty (cond y (one (entryOf w)) several)) e w
+    go true y p = word-same e h
+    go false true p = ap (λ b. cond b w 1) (entry-same w e h (eqb-true w (wordOf (entryOf w)) p))
+    go false false p = other (eqb w (entryWord e))
+
+pub note-same : (w : ℕ) (x : Outcome) → InRange x → addOutcome w x ≡ noted (translation x) w
+unfolding noted
+note-same w (Mapped e) h = add-same w e h
+note-same w (Failed f) h = refl
+
+-- a word that stands for no entry is the word of none
+not-single : (w : ℕ) (e : Entry) → Fits e → eqb w (wordOf (entryOf w)) ≡ false → eqb w (entryWord e) ≡ false
+unfolding wordOf entryOf bits
+not-single w e h p = ne-eqb w (entryWord e) (λ q. eqb-false w (wordOf (entryOf w)) p (omega arith))
+
+stale-entry : (w : ℕ) (e : Entry) → Fits e → staleWord w (Mapped e) ≡ differs (kept w) (found e)
+unfolding staleWord kept differs
+stale-entry w e h = go (eqb w 0) (eqb w (wordOf (entryOf w))) refl
+  where
+    flip : (b : Bool) → cond b false true ≡ not b
+    flip true = refl
+    flip false = refl
+    go : (x y : Bool) → eqb w (wordOf (entryOf w)) ≡ y →
+        cond x false (cond (eqb w (entryWord e)) false true) ≡ differs (cond x empty (cond y (one (entryOf w)) several)) (found e)
+    go true y p = refl
+    go false true p = flip (eqb w (entryWord e)) ∙ ap not (entry-same w e h (eqb-true w (wordOf (entryOf w)) p))
+    go false false p = ap (λ b. cond b false true) (not-single w e h p)
+
+stale-failed : (w n : ℕ) → cond (eqb w 0) false true ≡ differs (kept w) (failed n)
+unfolding kept differs
+stale-failed w n = go (eqb w 0) (eqb w (wordOf (entryOf w)))
+  where
+    go : (x y : Bool) → cond x false true ≡ differs (cond x empty (cond y (one (entryOf w)) several)) (failed n)
+    go true y = refl
+    go false true = refl
+    go false false = refl
+
+pub stale-same : (w : ℕ) (x : Outcome) → InRange x → staleWord w x ≡ differs (kept w) (translation x)
+unfolding staleWord
+stale-same w (Mapped e) h = stale-entry w e h
+stale-same w (Failed f) h = stale-failed w (faultNumber f)
