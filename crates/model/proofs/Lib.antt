@@ -6,3 +6,4 @@ pub mod Rights
 pub mod Checks
 pub mod Rows
 pub mod Words
+pub mod Track
