@@ -7,3 +7,4 @@ pub mod Checks
 pub mod Rows
 pub mod Words
 pub mod Track
+pub mod Effect

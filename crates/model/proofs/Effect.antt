@@ -1,0 +1,132 @@
+-- What an operation that passed the checks gives is what the reference's plain machine gives, unless its page is stale.
+use Prim.Native.Nat.{ℕ, suc, _+_, _*_, _/_, _%_, _≤_, _<_}
+use mathlib.Core.Path.{_≡_, refl, sym, ap, ap₂, _∙_}
+use mathlib.Core.Bool.{Bool, true, false, cond, not, _&&_, true≢false}
+use mathlib.Core.List.{List, [], _∷_}
+use native.Mathlib.Omega.{arith}
+use lib.Dec.{eqb, leb}
+use lib.ListN.{length, getD}
+use borrow.Author.Tests.{eqb-true, eqb-false, eq-eqb, ne-eqb}
+use Rattle.model.specs.Limits.{pageSize, rowSize}
+use Rattle.model.specs.Numbers.{Result, ok, fault, refused, shown, faultNumber}
+use Rattle.model.specs.reference.Map.{Translation, found, failed, inMemory, value, walk, physical, rightOf, allows}
+use Rattle.model.specs.reference.Plain.{State, aligned, touched, translated, access, setRegisters, effect, outcome, carriedOut}
+use Rattle.model.specs.reference.Remembered.{trackWord, stale, kept, differs}
+use Rattle.model.specs.reference.Refusals.{among, refuses16}
+use Rattle.model.specs.step.Memory.{bytesOf, within, numberAt, storedAt}
+use Rattle.model.specs.step.Walk.{walkPage}
+use Rattle.model.specs.step.Rights.{permitted}
+use Rattle.model.specs.step.Track.{noteTrack, wordAt, staleWord}
+use Rattle.model.specs.step.Checks.{isSize, sizeFits}
+use Rattle.model.specs.step.Machine.{After, sizeOf, physicalOf, granted, decided, accessAt, readFrom, writeTo, readStep, writeStep, operate}
+use Rattle.model.specs.Types.{Registers, Operation, Kind, Read, Write, Root, Asid, Mode, All, Addr, Ctx, AddrCtx, Entry, Alignment, Permission, AccessOutside, Size, One, Two, Four, Outcome, Mapped, Failed, Access, Stale, Fails, Physical}
+use Rattle.model.proofs.Tests.{push}
+use Rattle.model.proofs.Memory.{within-same, number-same, stored-same}
+use Rattle.model.proofs.Walk.{translation, walk-same}
+use Rattle.model.proofs.Rights.{rights-same}
+use Rattle.model.proofs.Words.{walk-range, stale-same}
+
+-- what the reference sees of what an operation gives: its answer, and memory and registers after it
+abbrev pub visible : After → Result × State
+visible x = (shown (x .answer), record { memory = x .memory; registers = x .registers })
+
+abbrev pub state : Registers → List ℕ → State
+state r m = record { memory = m; registers = r }
+
+-- what an access comes to, as the reference sees it
+taken : Bool → Size → ℕ → State → Access → Result × State
+taken writes size v s Stale = (refused 16, s)
+taken writes size v s (Fails f) = (fault (faultNumber f), s)
+taken writes size v s (Physical p) = touched writes p (bytesOf size) v s
+
+read-taken : (x : Access) (size : Size) (v : ℕ) (r : Registers) (m t : List ℕ) → visible (readFrom x size r m t) ≡ taken false size v (state r m) x
+unfolding taken touched
+read-taken Stale size v r m t = refl
+read-taken (Fails f) size v r m t = refl
+read-taken (Physical p) size v r m t = λ i. (ok (number-same size m p i), state r m)
+
+write-taken : (x : Access) (size : Size) (v : ℕ) (r : Registers) (m t : List ℕ) → visible (writeTo x size v r m t) ≡ taken true size v (state r m) x
+unfolding taken touched
+write-taken Stale size v r m t = refl
+write-taken (Fails f) size v r m t = refl
+write-taken (Physical p) size v r m t = λ i. (ok 0, state r (stored-same size m p v i))
+
+-- ── An access, its page's outcome given ──
+
+granted-same : (x : Outcome) (writes : Bool) (size : Size) (a v : ℕ) (r : Registers) (m : List ℕ) →
+    taken writes size v (state r m) (granted x (r .mode) writes size a m) ≡ translated writes a (bytesOf size) v (state r m) (translation x)
+unfolding taken translated physical
+granted-same (Failed f) writes size a v r m = refl
+granted-same (Mapped e) writes size a v r m =
+    push (taken writes size v (state r m)) (permitted (e .ap) (r .mode) writes) _ (Fails Permission)
+    ∙ ap (λ y. cond (permitted (e .ap) (r .mode) writes) y (fault 4, state r m))
+      (push (taken writes size v (state r m)) (within size m (physicalOf e a)) (Physical (physicalOf e a)) (Fails AccessOutside)
+      ∙ ap (λ b. cond b (touched writes (physicalOf e a) (bytesOf size) v (state r m)) (fault 7, state r m)) (within-same size m (physicalOf e a)))
+    ∙ ap (λ b. cond b (cond (inMemory m (physicalOf e a) (bytesOf size)) (touched writes (physicalOf e a) (bytesOf size) v (state r m)) (fault 7, state r m)) (fault 4, state r m))
+      (rights-same (e .ap) (r .mode) writes)
+
+decided-same : (x : Outcome) (w : ℕ) (writes : Bool) (size : Size) (a v : ℕ) (r : Registers) (m : List ℕ) →
+    taken writes size v (state r m) (decided x w (r .mode) writes size a m)
+    ≡ cond (aligned a (bytesOf size)) (cond (staleWord w x) (refused 16, state r m) (translated writes a (bytesOf size) v (state r m) (translation x))) (fault 1, state r m)
+unfolding decided aligned taken
+decided-same x w writes size a v r m =
+    push (taken writes size v (state r m)) (eqb (a % bytesOf size) 0) _ (Fails Alignment)
+    ∙ ap (λ y. cond (eqb (a % bytesOf size) 0) y (fault 1, state r m))
+      (push (taken writes size v (state r m)) (staleWord w x) Stale _
+      ∙ ap (λ y. cond (staleWord w x) (refused 16, state r m) y) (granted-same x writes size a v r m))
+
+-- the stale test of an access
+stale-at : (r : Registers) (m t : List ℕ) (a : ℕ) →
+    staleWord (wordAt t (r .context) (a / pageSize)) (walkPage m (r .root) (a / pageSize)) ≡ stale t (r .context) (a / pageSize) (walk m (r .root) a)
+unfolding stale trackWord
+stale-at r m t a =
+    stale-same (wordAt t (r .context) (a / pageSize)) (walkPage m (r .root) (a / pageSize)) (walk-range m (r .root) (a / pageSize))
+    ∙ ap₂ (λ n x. differs (kept (getD t n 0)) x) (let q : r .context * rowSize + a / pageSize ≡ rowSize * r .context + a / pageSize = omega arith in q) (walk-same m (r .root) a)
+
+-- an access in a state: fault 1, then 16, then what its translation gives
+access-same : (writes : Bool) (size : Size) (a v : ℕ) (r : Registers) (m t : List ℕ) →
+    taken writes size v (state r m) (accessAt r m t writes size a)
+    ≡ cond (aligned a (bytesOf size)) (cond (stale t (r .context) (a / pageSize) (walk m (r .root) a)) (refused 16, state r m) (translated writes a (bytesOf size) v (state r m) (walk m (r .root) a))) (fault 1, state r m)
+unfolding accessAt
+access-same writes size a v r m t =
+    decided-same (walkPage m (r .root) (a / pageSize)) (wordAt t (r .context) (a / pageSize)) writes size a v r m
+    ∙ ap₂ (λ b x. cond (aligned a (bytesOf size)) (cond b (refused 16, state r m) (translated writes a (bytesOf size) v (state r m) x)) (fault 1, state r m)) (stale-at r m t a) (walk-same m (r .root) a)
+
+-- the size that a field names
+size-bytes : (b : ℕ) → isSize b ≡ true → bytesOf (sizeOf b) ≡ b
+size-bytes b h = go (eqb b 1) (eqb b 2) (eqb b 4) refl refl refl h
+  where
+    go : (x y z : Bool) → eqb b 1 ≡ x → eqb b 2 ≡ y → eqb b 4 ≡ z → cond x true (cond y true z) ≡ true → bytesOf (cond x One (cond y Two Four)) ≡ b
+    go true y z p q r e = sym (eqb-true b 1 p)
+    go false true z p q r e = sym (eqb-true b 2 q)
+    go false false true p q r e = sym (eqb-true b 4 r)
+    go false false false p q r e = absurd (true≢false (sym e))
+
+-- a refusal tested inside another test
+nested : {A : Type 0} (x y : Bool) (p q r : A) → cond x (cond y p q) r ≡ cond (x && y) p (cond x q r)
+nested true y p q r = refl
+nested false y p q r = refl
+
+access-whole : (writes : Bool) (o : Operation) (r : Registers) (m t : List ℕ) → isSize (o .b) ≡ true →
+    taken writes (sizeOf (o .b)) (o .c) (state r m) (accessAt r m t writes (sizeOf (o .b)) (o .a))
+    ≡ cond (aligned (o .a) (o .b) && stale t (r .context) (o .a / pageSize) (walk m (r .root) (o .a))) (refused 16, state r m) (access writes o (state r m) (outcome (state r m)))
+unfolding access outcome
+access-whole writes o r m t h =
+    access-same writes (sizeOf (o .b)) (o .a) (o .c) r m t
+    ∙ rw (size-bytes (o .b) h) (nested (aligned (o .a) (o .b)) (stale t (r .context) (o .a / pageSize) (walk m (r .root) (o .a))) (refused 16, state r m) _ (fault 1, state r m))
+
+-- ── Every operation ──
+
+pub operate-same : (k : Kind) (a b c : ℕ) (r : Registers) (m t : List ℕ) → sizeFits k b ≡ true →
+    visible (operate k (record { kind = k; a = a; b = b; c = c }) r m t)
+    ≡ cond (refuses16 (record { kind = k; a = a; b = b; c = c }) r m t) (refused 16, state r m) (carriedOut (record { kind = k; a = a; b = b; c = c }) (state r m))
+unfolding operate carriedOut effect setRegisters refuses16 among sizeFits readStep writeStep
+operate-same Read a b c r m t h = read-taken (accessAt r m t false (sizeOf b) a) (sizeOf b) c r m t ∙ access-whole false (record { kind = Read; a = a; b = b; c = c }) r m t h
+operate-same Write a b c r m t h = write-taken (accessAt r m t true (sizeOf b) a) (sizeOf b) c r m t ∙ access-whole true (record { kind = Write; a = a; b = b; c = c }) r m t h
+operate-same Root a b c r m t h = refl
+operate-same Asid a b c r m t h = refl
+operate-same Mode a b c r m t h = refl
+operate-same All a b c r m t h = refl
+operate-same Addr a b c r m t h = refl
+operate-same Ctx a b c r m t h = refl
+operate-same AddrCtx a b c r m t h = refl
