@@ -19,6 +19,7 @@ use Rattle.model.specs.step.Rights.{permitted}
 use Rattle.model.specs.step.Track.{noteTrack, wordAt, staleWord}
 use Rattle.model.specs.step.Checks.{isSize, sizeFits}
 use Rattle.model.specs.step.Machine.{After, sizeOf, physicalOf, granted, decided, accessAt, readFrom, writeTo, readStep, writeStep, operate}
+use Rattle.model.specs.Demands.{visible}
 use Rattle.model.specs.Types.{Registers, Operation, Kind, Read, Write, Root, Asid, Mode, All, Addr, Ctx, AddrCtx, Entry, Alignment, Permission, AccessOutside, Size, One, Two, Four, Outcome, Mapped, Failed, Access, Stale, Fails, Physical}
 use Rattle.model.proofs.Tests.{push}
 use Rattle.model.proofs.Memory.{within-same, number-same, stored-same}
@@ -26,10 +27,7 @@ use Rattle.model.proofs.Walk.{translation, walk-same}
 use Rattle.model.proofs.Rights.{rights-same}
 use Rattle.model.proofs.Words.{walk-range, stale-same}
 
--- what the reference sees of what an operation gives: its answer, and memory and registers after it
-abbrev pub visible : After → Result × State
-visible x = (shown (x .answer), record { memory = x .memory; registers = x .registers })
-
+-- memory and registers together
 abbrev pub state : Registers → List ℕ → State
 state r m = record { memory = m; registers = r }
 

@@ -8,3 +8,4 @@ pub mod Rows
 pub mod Words
 pub mod Track
 pub mod Effect
+pub mod Calls

@@ -4,3 +4,4 @@ pub mod Limits
 pub mod Numbers
 pub mod reference
 pub mod step
+pub mod Demands

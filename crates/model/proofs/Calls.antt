@@ -1,0 +1,303 @@
+-- The first demand, and what the second asks of a single call: proved of the step.
+use Prim.Native.Nat.{ℕ, suc, _+_, _*_, _/_, _%_, _≤_, _<_}
+use mathlib.Core.Path.{_≡_, refl, sym, ap, ap₂, _∙_}
+use mathlib.Core.Logic.{_↔_, _⊎_, inl, inr}
+use mathlib.Core.Bool.{Bool, true, false, cond, not, _&&_, true≢false}
+use mathlib.Core.List.{List, [], _∷_, _++_}
+use mathlib.Core.Option.{Option, none, some}
+use native.Mathlib.Omega.{arith}
+use lib.Dec.{eqb, leb, ltb}
+use lib.ListN.{length}
+use borrow.Author.Tests.{ltb-true}
+use Rattle.model.specs.Limits.{pageSize, rowSize}
+use Rattle.model.specs.Numbers.{Result, ok, fault, refused, shown, refusalNumber}
+use Rattle.model.specs.reference.Map.{Translation, found, failed, inMemory, physical, rightOf, allows}
+use Rattle.model.specs.reference.Plain.{State, fresh, aligned, touched, translated, access, setRegisters, effect, outcome, carriedOut}
+use Rattle.model.specs.reference.Remembered.{trackWord, notedIn, wordAfter}
+use Rattle.model.specs.reference.Refusals.{Call, contexts, conditions, startConditions, Given, refuses16}
+use Rattle.model.specs.step.Track.{noteTrack, flushAll}
+use Rattle.model.specs.step.Checks.{checks, startChecks, firstFailing, contextFits, registersFit, sizeFits, rootFits}
+use Rattle.model.specs.step.Machine.{After, sizeOf, accessAt, readFrom, writeTo, readStep, writeStep, checked, startedBy, operate, stepped, started, startRegisters, zeroRegisters, turnedBack}
+use Rattle.model.specs.Demands.{after, before, visible, Leaves, Total, Faithful}
+use Rattle.model.specs.Types.{Registers, Operation, Kind, Read, Write, Root, Asid, Mode, All, Addr, Ctx, AddrCtx, Refusal, StalePage, Size, Check, Pass, Refuse, Access, Stale, Fails, Physical}
+use Rattle.model.proofs.Tests.{push, and-both}
+use Rattle.model.proofs.Checks.{asConditions, staleCondition, checks-same, start-checks-same}
+use Rattle.model.proofs.Track.{flushOf, noted-word, noted-length, flushed-length, word-after}
+use Rattle.model.proofs.Effect.{state, operate-same}
+
+-- ── The first condition that holds ──
+
+unfoldable pub firstHolding : List (ℕ × Bool) → Option ℕ
+firstHolding [] = none
+firstHolding (x ∷ xs) = cond (x .1) (some (x .0)) (firstHolding xs)
+
+none-some : {A : Type 0} (x : A) → _≡_ {A = Option A} none (some x) → ⊥
+none-some x p = let z : _≡_ {A = Bool} true false = cc in true≢false z
+
+pub given-first : (xs : List (ℕ × Bool)) (r : ℕ) → Given r xs → firstHolding xs ≡ some r
+unfolding Given firstHolding
+given-first [] r g = absurd g
+given-first (x ∷ xs) r (inl g) = rw (g .1) (ap some (g .0))
+given-first (x ∷ xs) r (inr g) = rw (g .0) (given-first xs r (g .1))
+
+pub first-given : (xs : List (ℕ × Bool)) (r : ℕ) → firstHolding xs ≡ some r → Given r xs
+unfolding Given firstHolding
+first-given [] r p = none-some r p
+first-given (x ∷ xs) r p = go (x .1) refl p (first-given xs r)
+  where
+    go : (b : Bool) → x .1 ≡ b → cond b (some (x .0)) (firstHolding xs) ≡ some r → (firstHolding xs ≡ some r → Given r xs) →
+        ((x .0 ≡ r) × (x .1 ≡ true)) ⊎ ((x .1 ≡ false) × Given r xs)
+    go true e q rest = inl (let z : x .0 ≡ r = cc in z, e)
+    go false e q rest = inr (e, rest q)
+
+-- a check that refuses, or what comes after the checks
+unfoldable orElse : Check → Option ℕ → Option ℕ
+orElse (Refuse n) y = some (refusalNumber n)
+orElse Pass y = y
+
+first-failing : (xs : List (Bool × Refusal)) (ys : List (ℕ × Bool)) → firstHolding (asConditions xs ++ ys) ≡ orElse (firstFailing xs) (firstHolding ys)
+unfolding firstHolding asConditions firstFailing orElse
+first-failing [] ys = refl
+first-failing (x ∷ xs) ys = go (x .0) (first-failing xs ys)
+  where
+    go : (b : Bool) → firstHolding (asConditions xs ++ ys) ≡ orElse (firstFailing xs) (firstHolding ys) →
+        cond (not b) (some (refusalNumber (x .1))) (firstHolding (asConditions xs ++ ys)) ≡ orElse (cond b (firstFailing xs) (Refuse (x .1))) (firstHolding ys)
+    go true rest = rest
+    go false rest = refl
+
+-- checks that pass hold
+unfoldable Hold : List (Bool × Refusal) → Type 0
+Hold [] = Unit {0}
+Hold (x ∷ xs) = (x .0 ≡ true) × Hold xs
+
+passed : (xs : List (Bool × Refusal)) → firstFailing xs ≡ Pass → Hold xs
+unfolding Hold firstFailing
+passed [] p = tt
+passed (x ∷ xs) p = go (x .0) refl p (passed xs)
+  where
+    go : (b : Bool) → x .0 ≡ b → cond b (firstFailing xs) (Refuse (x .1)) ≡ Pass → (firstFailing xs ≡ Pass → Hold xs) → (x .0 ≡ true) × Hold xs
+    go true e q rest = (e, rest q)
+    go false e q rest = absurd (let z : _≡_ {A = Bool} true false = cc in true≢false z)
+
+-- ── What a call gives, by the first condition that holds ──
+
+-- refused by a number, or carried out
+unfoldable answerBy : Option ℕ → Operation → State → Result × State
+answerBy (some r) o s = (refused r, s)
+answerBy none o s = carriedOut o s
+
+-- the checks of a call
+abbrev checksOf : Call → List (Bool × Refusal)
+checksOf x = checks (x .operation) (x .registers) (length (x .memory)) (length (x .track))
+
+size-passed : (x : Call) → firstFailing (checksOf x) ≡ Pass → sizeFits (x .operation .kind) (x .operation .b) ≡ true
+unfolding Hold checks
+size-passed x p = passed (checksOf x) p .1 .1 .0
+
+conditions-by : (x : Call) → firstHolding (conditions x) ≡ orElse (firstFailing (checksOf x)) (firstHolding (staleCondition x ∷ []))
+conditions-by x = ap firstHolding (sym (checks-same x)) ∙ first-failing (checksOf x) (staleCondition x ∷ [])
+
+step-same : (x : Call) → visible (after x) ≡ answerBy (firstHolding (conditions x)) (x .operation) (before x)
+unfolding stepped
+step-same x = go (firstFailing (checksOf x)) refl ∙ ap (λ y. answerBy y (x .operation) (before x)) (sym (conditions-by x))
+  where
+    go : (y : Check) → firstFailing (checksOf x) ≡ y →
+        visible (checked y (x .operation) (x .registers) (x .memory) (x .track)) ≡ answerBy (orElse y (firstHolding (staleCondition x ∷ []))) (x .operation) (before x)
+    go (Refuse n) e = unfold orElse answerBy in refl
+    go Pass e =
+        operate-same k a b c (x .registers) (x .memory) (x .track) (size-passed x e)
+        ∙ unfold orElse answerBy firstHolding in sym (push (λ y. answerBy y (x .operation) (before x)) (refuses16 (x .operation) (x .registers) (x .memory) (x .track)) (some 16) none)
+      where
+        k : Kind
+        k = x .operation .kind
+        a : ℕ
+        a = x .operation .a
+        b : ℕ
+        b = x .operation .b
+        c : ℕ
+        c = x .operation .c
+
+-- ── The plain machine refuses nothing ──
+
+unfoldable isRefused : Result → Bool
+isRefused (ok v) = false
+isRefused (fault n) = false
+isRefused (refused r) = true
+
+touched-answers : (writes : Bool) (at size v : ℕ) (s : State) → isRefused (touched writes at size v s .0) ≡ false
+unfolding isRefused touched
+touched-answers true at size v s = refl
+touched-answers false at size v s = refl
+
+translated-answers : (writes : Bool) (a size v : ℕ) (s : State) (x : Translation) → isRefused (translated writes a size v s x .0) ≡ false
+unfolding isRefused translated
+translated-answers writes a size v s (failed n) = refl
+translated-answers writes a size v s (found e) =
+    go (allows (rightOf (e .ap) (s .registers .mode)) writes) (inMemory (s .memory) (physical e a) size)
+  where
+    go : (p q : Bool) → isRefused (cond p (cond q (touched writes (physical e a) size v s) (fault 7, s)) (fault 4, s) .0) ≡ false
+    go true true = touched-answers writes (physical e a) size v s
+    go true false = refl
+    go false q = refl
+
+access-answers : (writes : Bool) (o : Operation) (s : State) (f : ℕ → Translation) → isRefused (access writes o s f .0) ≡ false
+unfolding isRefused access
+access-answers writes o s f = go (aligned (o .a) (o .b))
+  where
+    go : (b : Bool) → isRefused (cond b (translated writes (o .a) (o .b) (o .c) s (f (o .a))) (fault 1, s) .0) ≡ false
+    go true = translated-answers writes (o .a) (o .b) (o .c) s (f (o .a))
+    go false = refl
+
+effect-answers : (k : Kind) (o : Operation) (s : State) (f : ℕ → Translation) → isRefused (effect k o s f .0) ≡ false
+unfolding isRefused effect setRegisters
+effect-answers Read o s f = access-answers false o s f
+effect-answers Write o s f = access-answers true o s f
+effect-answers Root o s f = refl
+effect-answers Asid o s f = refl
+effect-answers Mode o s f = refl
+effect-answers All o s f = refl
+effect-answers Addr o s f = refl
+effect-answers Ctx o s f = refl
+effect-answers AddrCtx o s f = refl
+
+pub never-refused : (o : Operation) (s : State) (r : ℕ) → carriedOut o s .0 ≡ refused r → ⊥
+unfolding isRefused carriedOut
+never-refused o s r p = true≢false (sym (ap isRefused p) ∙ effect-answers (o .kind) o s (outcome s))
+
+-- ── Refused exactly when a condition is the first that holds ──
+
+refused-number : (r n : ℕ) → _≡_ {A = Result} (refused n) (refused r) → n ≡ r
+refused-number r n p = cc
+
+pub exactly : (x : Call) (r : ℕ) → (shown (after x .answer) ≡ refused r) ↔ Given r (conditions x)
+exactly x r = (to, from)
+  where
+    go : (y : Option ℕ) → firstHolding (conditions x) ≡ y → answerBy y (x .operation) (before x) .0 ≡ refused r → Given r (conditions x)
+    go (some n) e p = first-given (conditions x) r (e ∙ ap some (refused-number r n (unfold answerBy in p)))
+    go none e p = absurd (never-refused (x .operation) (before x) r (unfold answerBy in p))
+    to : shown (after x .answer) ≡ refused r → Given r (conditions x)
+    to p = go (firstHolding (conditions x)) refl (sym (ap (λ (y : Result × State). y .0) (step-same x)) ∙ p)
+    from : Given r (conditions x) → shown (after x .answer) ≡ refused r
+    from g =
+        ap (λ (y : Result × State). y .0) (step-same x)
+        ∙ ap (λ y. answerBy y (x .operation) (before x) .0) (given-first (conditions x) r g)
+        ∙ (unfold answerBy in refl)
+
+-- no condition holds: none is the first
+none-holds : (xs : List (ℕ × Bool)) → ((r : ℕ) → Given r xs → ⊥) → firstHolding xs ≡ none
+none-holds xs h = go (firstHolding xs) refl
+  where
+    go : (y : Option ℕ) → firstHolding xs ≡ y → y ≡ none
+    go none e = refl
+    go (some r) e = absurd (h r (first-given xs r e))
+
+pub plain : (x : Call) → ((r : ℕ) → Given r (conditions x) → ⊥) → visible (after x) ≡ carriedOut (x .operation) (before x)
+plain x h =
+    step-same x ∙ ap (λ y. answerBy y (x .operation) (before x)) (none-holds (conditions x) h) ∙ (unfold answerBy in refl)
+
+-- ── What is left in the track ──
+
+-- turned back with all as given, or carried out with what was flushed noted
+data Ended (y : After) (r : Registers) (m t flushed : List ℕ) : Type 0 where
+  back : (n : Refusal) → y ≡ turnedBack n r m t → Ended y r m t flushed
+  done : isRefused (shown (y .answer)) ≡ false → y .track ≡ noteTrack (y .memory) (y .registers .root) (y .registers .context) flushed → Ended y r m t flushed
+
+read-ended : (x : Access) (size : Size) (r : Registers) (m t : List ℕ) → Ended (readFrom x size r m t) r m t t
+read-ended Stale size r m t = back StalePage refl
+read-ended (Fails f) size r m t = done (unfold isRefused in refl) refl
+read-ended (Physical p) size r m t = done (unfold isRefused in refl) refl
+
+write-ended : (x : Access) (size : Size) (v : ℕ) (r : Registers) (m t : List ℕ) → Ended (writeTo x size v r m t) r m t t
+write-ended Stale size v r m t = back StalePage refl
+write-ended (Fails f) size v r m t = done (unfold isRefused in refl) refl
+write-ended (Physical p) size v r m t = done (unfold isRefused in refl) refl
+
+operate-ended : (k : Kind) (o : Operation) (r : Registers) (m t : List ℕ) → Ended (operate k o r m t) r m t (flushOf k o t)
+unfolding operate flushOf readStep writeStep isRefused
+operate-ended Read o r m t = read-ended (accessAt r m t false (sizeOf (o .b)) (o .a)) (sizeOf (o .b)) r m t
+operate-ended Write o r m t = write-ended (accessAt r m t true (sizeOf (o .b)) (o .a)) (sizeOf (o .b)) (o .c) r m t
+operate-ended Root o r m t = done refl refl
+operate-ended Asid o r m t = done refl refl
+operate-ended Mode o r m t = done refl refl
+operate-ended All o r m t = done refl refl
+operate-ended Addr o r m t = done refl refl
+operate-ended Ctx o r m t = done refl refl
+operate-ended AddrCtx o r m t = done refl refl
+
+-- the flush of a call
+abbrev flushedBy : Call → List ℕ
+flushedBy x = flushOf (x .operation .kind) (x .operation) (x .track)
+
+ended : (x : Call) → Ended (after x) (x .registers) (x .memory) (x .track) (flushedBy x)
+unfolding stepped
+ended x = go (firstFailing (checksOf x))
+  where
+    go : (y : Check) → Ended (checked y (x .operation) (x .registers) (x .memory) (x .track)) (x .registers) (x .memory) (x .track) (flushedBy x)
+    go (Refuse n) = back n refl
+    go Pass = operate-ended (x .operation .kind) (x .operation) (x .registers) (x .memory) (x .track)
+
+leaves-back : (y : After) (n : Refusal) (r : Registers) (m t : List ℕ) → y ≡ turnedBack n r m t → Leaves y r m t
+leaves-back y n r m t e = record
+    { registers = ap (λ (z : After). z .registers) e
+    ; memory = ap (λ (z : After). z .memory) e
+    ; track = ap (λ (z : After). z .track) e
+    }
+
+pub unchanged : (x : Call) (r : ℕ) → shown (after x .answer) ≡ refused r → Leaves (after x) (x .registers) (x .memory) (x .track)
+unfolding isRefused
+unchanged x r p = go (ended x)
+  where
+    go : Ended (after x) (x .registers) (x .memory) (x .track) (flushedBy x) → Leaves (after x) (x .registers) (x .memory) (x .track)
+    go (back n e) = leaves-back (after x) n (x .registers) (x .memory) (x .track) e
+    go (done a e) = absurd (true≢false (sym (ap isRefused p) ∙ a))
+
+-- the context left is one of the track's
+read-context : (x : Access) (size : Size) (r : Registers) (m t : List ℕ) → readFrom x size r m t .registers ≡ r
+read-context Stale size r m t = refl
+read-context (Fails f) size r m t = refl
+read-context (Physical p) size r m t = refl
+
+write-context : (x : Access) (size : Size) (v : ℕ) (r : Registers) (m t : List ℕ) → writeTo x size v r m t .registers ≡ r
+write-context Stale size v r m t = refl
+write-context (Fails f) size v r m t = refl
+write-context (Physical p) size v r m t = refl
+
+context-left : (k : Kind) (o : Operation) (r : Registers) (m t : List ℕ) → r .context < contexts t → contextFits k (o .a) (o .b) (contexts t) ≡ true →
+    operate k o r m t .registers .context < contexts t
+unfolding operate contextFits readStep writeStep
+context-left Read o r m t h f = rw (read-context (accessAt r m t false (sizeOf (o .b)) (o .a)) (sizeOf (o .b)) r m t) h
+context-left Write o r m t h f = rw (write-context (accessAt r m t true (sizeOf (o .b)) (o .a)) (sizeOf (o .b)) (o .c) r m t) h
+context-left Root o r m t h f = h
+context-left Asid o r m t h f = ltb-true (o .a) (contexts t) f
+context-left Mode o r m t h f = h
+context-left All o r m t h f = h
+context-left Addr o r m t h f = h
+context-left Ctx o r m t h f = h
+context-left AddrCtx o r m t h f = h
+
+-- what the checks passed say of contexts
+record Passed (x : Call) : Type 0 where
+  given : x .registers .context < contexts (x .track)
+  named : contextFits (x .operation .kind) (x .operation .a) (x .operation .b) (contexts (x .track)) ≡ true
+  left : after x .registers .context < contexts (x .track)
+
+context-in-range : (r : Registers) (n : ℕ) → registersFit r n ≡ true → r .context < n
+unfolding registersFit
+context-in-range r n p = go (rootFits (r .root)) (ltb (r .context) n) refl p
+  where
+    go : (x y : Bool) → ltb (r .context) n ≡ y → cond x (cond y (leb (r .mode) 1) false) false ≡ true → r .context < n
+    go true true e q = ltb-true (r .context) n e
+    go true false e q = absurd (true≢false (sym q))
+    go false y e q = absurd (true≢false (sym q))
+
+passed-call : (x : Call) → firstFailing (checksOf x) ≡ Pass → Passed x
+unfolding Hold checks contexts stepped
+passed-call x p =
+    let all = passed (checksOf x) p in
+    let given : x .registers .context < contexts (x .track) = context-in-range (x .registers) (contexts (x .track)) (all .1 .0) in
+    let named : contextFits (x .operation .kind) (x .operation .a) (x .operation .b) (contexts (x .track)) ≡ true = all .1 .1 .1 .1 .1 .1 .0 in
+    record
+      { given = given
+      ; named = named
+      ; left = rw p (context-left (x .operation .kind) (x .operation) (x .registers) (x .memory) (x .track) given named)
+      }

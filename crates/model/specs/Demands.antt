@@ -1,0 +1,55 @@
+-- What is proved of the step, in the reference's words: the first demand, and what the second asks of a single call.
+use Prim.Native.Nat.{ℕ, _<_}
+use mathlib.Core.Path.{_≡_}
+use mathlib.Core.Logic.{_↔_}
+use mathlib.Core.List.{List}
+use lib.ListN.{length}
+use Rattle.model.specs.Limits.{rowSize}
+use Rattle.model.specs.Numbers.{Result, ok, refused, shown}
+use Rattle.model.specs.reference.Plain.{State, fresh, carriedOut}
+use Rattle.model.specs.reference.Remembered.{trackWord, notedIn, wordAfter}
+use Rattle.model.specs.reference.Refusals.{Call, contexts, conditions, startConditions, Given}
+use Rattle.model.specs.step.Machine.{After, stepped, started}
+use Rattle.model.specs.Types.{Registers, Answer}
+
+-- what one operation gives, and the state that it was given
+abbrev pub after : Call → After
+after x = stepped (x .operation) (x .registers) (x .memory) (x .track)
+
+abbrev pub before : Call → State
+before x = record { memory = x .memory; registers = x .registers }
+
+-- the answer, and memory and registers after it
+abbrev pub visible : After → Result × State
+visible x = (shown (x .answer), record { memory = x .memory; registers = x .registers })
+
+-- registers returned, memory and track left
+pub record Leaves (x : After) (r : Registers) (m t : List ℕ) : Type 0 where
+  pub registers : x .registers ≡ r
+  pub memory : x .memory ≡ m
+  pub track : x .track ≡ t
+
+-- Every call ends with the result that the rules name, whatever it is handed.
+pub record Total : Type 0 where
+  -- an operation is refused with a number exactly when the number's condition holds and none before it does
+  pub exactly : (x : Call) (r : ℕ) → (shown (after x .answer) ≡ refused r) ↔ Given r (conditions x)
+  -- a refused operation returns the registers, and leaves memory and track, as given
+  pub unchanged : (x : Call) (r : ℕ) → shown (after x .answer) ≡ refused r → Leaves (after x) (x .registers) (x .memory) (x .track)
+  -- the same of start, which returns zero registers when refused
+  pub startExactly : (m t : List ℕ) (root r : ℕ) → (shown (started m t root .answer) ≡ refused r) ↔ Given r (startConditions m t root)
+  pub startUnchanged : (m t : List ℕ) (root r : ℕ) → shown (started m t root .answer) ≡ refused r →
+    Leaves (started m t root) (record { root = 0; context = 0; mode = 0 }) m t
+
+-- A call that is not refused is carried out by the rules.
+pub record Faithful : Type 0 where
+  -- an operation gives the plain machine's answer, and leaves its memory and registers
+  pub plain : (x : Call) → ((r : ℕ) → Given r (conditions x) → ⊥) → visible (after x) ≡ carriedOut (x .operation) (before x)
+  -- it leaves in each word of the track what is remembered of its context and page
+  pub words : (x : Call) → ((r : ℕ) → Given r (conditions x) → ⊥) → (c p : ℕ) → c < contexts (x .track) → p < rowSize →
+    trackWord (after x .track) c p ≡ wordAfter (x .operation) (carriedOut (x .operation) (before x) .1) c p (trackWord (x .track) c p)
+  pub trackLength : (x : Call) → length (after x .track) ≡ length (x .track)
+  -- start gives the plain machine's first state, and a track that remembers what the tables map now in context 0
+  pub start : (m t : List ℕ) (root : ℕ) → ((r : ℕ) → Given r (startConditions m t root) → ⊥) → visible (started m t root) ≡ (ok 0, fresh m root)
+  pub startWords : (m t : List ℕ) (root : ℕ) → ((r : ℕ) → Given r (startConditions m t root) → ⊥) → (c p : ℕ) → c < contexts t → p < rowSize →
+    trackWord (started m t root .track) c p ≡ notedIn (fresh m root) c p 0
+  pub startTrackLength : (m t : List ℕ) (root : ℕ) → length (started m t root .track) ≡ length t
