@@ -8,21 +8,21 @@ use mathlib.Core.Option.{Option, none, some}
 use native.Mathlib.Omega.{arith}
 use lib.Dec.{eqb, leb, ltb}
 use lib.ListN.{length}
-use borrow.Author.Tests.{ltb-true}
-use Rattle.model.specs.Limits.{pageSize, rowSize}
+use borrow.Author.Tests.{ltb-true, leb-true}
+use Rattle.model.specs.Limits.{rowSize, contextsMost}
 use Rattle.model.specs.Numbers.{Result, ok, fault, refused, shown, refusalNumber}
 use Rattle.model.specs.reference.Map.{Translation, found, failed, inMemory, physical, rightOf, allows}
-use Rattle.model.specs.reference.Plain.{State, fresh, aligned, touched, translated, access, setRegisters, effect, outcome, carriedOut}
+use Rattle.model.specs.reference.Plain.{State, fresh, aligned, touched, translated, access, setRegisters, effect, outcome, carriedOut, flushes}
 use Rattle.model.specs.reference.Remembered.{trackWord, notedIn, wordAfter}
 use Rattle.model.specs.reference.Refusals.{Call, contexts, conditions, startConditions, Given, refuses16}
 use Rattle.model.specs.step.Track.{noteTrack, flushAll}
-use Rattle.model.specs.step.Checks.{checks, startChecks, firstFailing, contextFits, registersFit, sizeFits, rootFits}
+use Rattle.model.specs.step.Checks.{checks, startChecks, firstFailing, contextFits, registersFit, sizeFits, rootFits, lengthsFit, memoryFits, trackFits}
 use Rattle.model.specs.step.Machine.{After, sizeOf, accessAt, readFrom, writeTo, readStep, writeStep, checked, startedBy, operate, stepped, started, startRegisters, zeroRegisters, turnedBack}
 use Rattle.model.specs.Demands.{after, before, visible, Leaves, Total, Faithful}
 use Rattle.model.specs.Types.{Registers, Operation, Kind, Read, Write, Root, Asid, Mode, All, Addr, Ctx, AddrCtx, Refusal, StalePage, Size, Check, Pass, Refuse, Access, Stale, Fails, Physical}
 use Rattle.model.proofs.Tests.{push, and-both}
 use Rattle.model.proofs.Checks.{asConditions, staleCondition, checks-same, start-checks-same}
-use Rattle.model.proofs.Track.{flushOf, noted-word, noted-length, flushed-length, word-after}
+use Rattle.model.proofs.Track.{flushOf, noted-word, noted-length, flushed-word, flushed-length, word-after}
 use Rattle.model.proofs.Effect.{state, operate-same}
 
 -- ── The first condition that holds ──
@@ -124,6 +124,10 @@ isRefused (ok v) = false
 isRefused (fault n) = false
 isRefused (refused r) = true
 
+not-refused : (x : Result) (r : ℕ) → isRefused x ≡ false → x ≡ refused r → ⊥
+unfolding isRefused
+not-refused x r a p = true≢false (sym (ap isRefused p) ∙ a)
+
 touched-answers : (writes : Bool) (at size v : ℕ) (s : State) → isRefused (touched writes at size v s .0) ≡ false
 unfolding isRefused touched
 touched-answers true at size v s = refl
@@ -161,8 +165,8 @@ effect-answers Ctx o s f = refl
 effect-answers AddrCtx o s f = refl
 
 pub never-refused : (o : Operation) (s : State) (r : ℕ) → carriedOut o s .0 ≡ refused r → ⊥
-unfolding isRefused carriedOut
-never-refused o s r p = true≢false (sym (ap isRefused p) ∙ effect-answers (o .kind) o s (outcome s))
+unfolding carriedOut
+never-refused o s r p = not-refused (carriedOut o s .0) r (effect-answers (o .kind) o s (outcome s)) p
 
 -- ── Refused exactly when a condition is the first that holds ──
 
@@ -244,12 +248,11 @@ leaves-back y n r m t e = record
     }
 
 pub unchanged : (x : Call) (r : ℕ) → shown (after x .answer) ≡ refused r → Leaves (after x) (x .registers) (x .memory) (x .track)
-unfolding isRefused
 unchanged x r p = go (ended x)
   where
     go : Ended (after x) (x .registers) (x .memory) (x .track) (flushedBy x) → Leaves (after x) (x .registers) (x .memory) (x .track)
     go (back n e) = leaves-back (after x) n (x .registers) (x .memory) (x .track) e
-    go (done a e) = absurd (true≢false (sym (ap isRefused p) ∙ a))
+    go (done a e) = absurd (not-refused (shown (after x .answer)) r a p)
 
 -- the context left is one of the track's
 read-context : (x : Access) (size : Size) (r : Registers) (m t : List ℕ) → readFrom x size r m t .registers ≡ r
@@ -301,3 +304,166 @@ passed-call x p =
       ; named = named
       ; left = rw p (context-left (x .operation .kind) (x .operation) (x .registers) (x .memory) (x .track) given named)
       }
+
+-- a call that is not refused has passed the checks
+passes : (xs : List (Bool × Refusal)) (ys : List (ℕ × Bool)) → firstHolding (asConditions xs ++ ys) ≡ none → firstFailing xs ≡ Pass
+passes xs ys p = go (firstFailing xs) (sym (first-failing xs ys) ∙ p)
+  where
+    go : (y : Check) → orElse y (firstHolding ys) ≡ none → y ≡ Pass
+    go Pass e = refl
+    go (Refuse n) e = absurd (none-some (refusalNumber n) (sym (unfold orElse in e)))
+
+call-passes : (x : Call) → ((r : ℕ) → Given r (conditions x) → ⊥) → Passed x
+call-passes x h = passed-call x (passes (checksOf x) (staleCondition x ∷ []) (ap firstHolding (checks-same x) ∙ none-holds (conditions x) h))
+
+pub words : (x : Call) → ((r : ℕ) → Given r (conditions x) → ⊥) → (c p : ℕ) → c < contexts (x .track) → p < rowSize →
+    trackWord (after x .track) c p ≡ wordAfter (x .operation) (carriedOut (x .operation) (before x) .1) c p (trackWord (x .track) c p)
+words x h c p d q = go (ended x)
+  where
+    o : Operation
+    o = x .operation
+    y : After
+    y = after x
+    go : Ended (after x) (x .registers) (x .memory) (x .track) (flushedBy x) →
+        trackWord (after x .track) c p ≡ wordAfter (x .operation) (carriedOut (x .operation) (before x) .1) c p (trackWord (x .track) c p)
+    go (back n e) = absurd (h (refusalNumber n) (exactly x (refusalNumber n) .0 (ap (λ (z : After). shown (z .answer)) e)))
+    go (done a e) =
+        let ok = call-passes x h in
+        ap (λ l. trackWord l c p) e
+        ∙ word-after (o .kind) o (y .memory) (y .registers) (x .track) refl (ok .named) (ok .left) c p d q
+        ∙ ap (λ (z : Result × State). wordAfter o (z .1) c p (trackWord (x .track) c p)) (plain x h)
+
+pub track-length : (x : Call) → length (after x .track) ≡ length (x .track)
+track-length x = go (ended x)
+  where
+    go : Ended (after x) (x .registers) (x .memory) (x .track) (flushedBy x) → length (after x .track) ≡ length (x .track)
+    go (back n e) = ap (λ (z : After). length (z .track)) e
+    go (done a e) =
+        let h : (r : ℕ) → Given r (conditions x) → ⊥ = λ r g. not-refused (shown (after x .answer)) r a (exactly x r .1 g) in
+        let ok = call-passes x h in
+        let same = flushed-length (x .operation .kind) (x .operation) (x .track) (ok .named) in
+        ap length e
+        ∙ noted-length (after x .memory) (after x .registers) (flushedBy x) (unfold contexts in rw same (unfold contexts in ok .left))
+        ∙ same
+
+-- ── Start ──
+
+abbrev startChecksOf : List ℕ → List ℕ → ℕ → List (Bool × Refusal)
+startChecksOf m t root = startChecks (length m) (length t) root
+
+start-conditions-by : (m t : List ℕ) (root : ℕ) → firstHolding (startConditions m t root) ≡ orElse (firstFailing (startChecksOf m t root)) none
+unfolding startConditions
+start-conditions-by m t root =
+    ap (λ l. firstHolding (l ++ [])) (sym (start-checks-same m t root))
+    ∙ first-failing (startChecksOf m t root) []
+    ∙ (unfold firstHolding in refl)
+
+unfoldable startedAs : Option ℕ → List ℕ → ℕ → Result × State
+startedAs (some r) m root = (refused r, state zeroRegisters m)
+startedAs none m root = (ok 0, fresh m root)
+
+start-same : (m t : List ℕ) (root : ℕ) → visible (started m t root) ≡ startedAs (firstHolding (startConditions m t root)) m root
+unfolding started
+start-same m t root = go (firstFailing (startChecksOf m t root)) ∙ ap (λ y. startedAs y m root) (sym (start-conditions-by m t root))
+  where
+    go : (y : Check) → visible (startedBy y m t root) ≡ startedAs (orElse y none) m root
+    go (Refuse n) = unfold orElse startedAs in refl
+    go Pass = unfold orElse startedAs fresh in refl
+
+pub start-exactly : (m t : List ℕ) (root r : ℕ) → (shown (started m t root .answer) ≡ refused r) ↔ Given r (startConditions m t root)
+start-exactly m t root r = (to, from)
+  where
+    go : (y : Option ℕ) → firstHolding (startConditions m t root) ≡ y → startedAs y m root .0 ≡ refused r → Given r (startConditions m t root)
+    go (some n) e p = first-given (startConditions m t root) r (e ∙ ap some (refused-number r n (unfold startedAs in p)))
+    go none e p = absurd (not-refused (ok 0) r (unfold isRefused in refl) (unfold startedAs in p))
+    to : shown (started m t root .answer) ≡ refused r → Given r (startConditions m t root)
+    to p = go (firstHolding (startConditions m t root)) refl (sym (ap (λ (y : Result × State). y .0) (start-same m t root)) ∙ p)
+    from : Given r (startConditions m t root) → shown (started m t root .answer) ≡ refused r
+    from g =
+        ap (λ (y : Result × State). y .0) (start-same m t root)
+        ∙ ap (λ y. startedAs y m root .0) (given-first (startConditions m t root) r g)
+        ∙ (unfold startedAs in refl)
+
+pub start-plain : (m t : List ℕ) (root : ℕ) → ((r : ℕ) → Given r (startConditions m t root) → ⊥) → visible (started m t root) ≡ (ok 0, fresh m root)
+start-plain m t root h =
+    start-same m t root ∙ ap (λ y. startedAs y m root) (none-holds (startConditions m t root) h) ∙ (unfold startedAs in refl)
+
+-- turned back with zero registers, or the emptied track noted
+data Begun (y : After) (m t : List ℕ) (root : ℕ) : Type 0 where
+  back : (n : Refusal) → y ≡ turnedBack n zeroRegisters m t → Begun y m t root
+  done : isRefused (shown (y .answer)) ≡ false → 0 < contexts t → y .track ≡ noteTrack m root 0 (flushAll t) → Begun y m t root
+
+has-context : (m t : List ℕ) → lengthsFit (length m) (length t) ≡ true → 0 < contexts t
+unfolding lengthsFit trackFits contexts
+has-context m t p = go (memoryFits (length m)) (eqb (length t % rowSize) 0) (leb rowSize (length t)) refl p
+  where
+    go : (x y z : Bool) → leb rowSize (length t) ≡ z → cond x (cond y (cond z (leb (length t) (contextsMost * rowSize)) false) false) false ≡ true → 0 < length t / rowSize
+    go true true true e q = let h = leb-true rowSize (length t) e in omega arith
+    go true true false e q = absurd (true≢false (sym q))
+    go true false z e q = absurd (true≢false (sym q))
+    go false y z e q = absurd (true≢false (sym q))
+
+begun : (m t : List ℕ) (root : ℕ) → Begun (started m t root) m t root
+unfolding started
+begun m t root = go (firstFailing (startChecksOf m t root)) refl
+  where
+    go : (y : Check) → firstFailing (startChecksOf m t root) ≡ y → Begun (startedBy y m t root) m t root
+    go (Refuse n) e = back n refl
+    go Pass e = done (unfold isRefused in refl) (has-context m t (unfold Hold startChecks in passed (startChecksOf m t root) e .0)) refl
+
+pub start-unchanged : (m t : List ℕ) (root r : ℕ) → shown (started m t root .answer) ≡ refused r → Leaves (started m t root) zeroRegisters m t
+start-unchanged m t root r p = go (begun m t root)
+  where
+    go : Begun (started m t root) m t root → Leaves (started m t root) zeroRegisters m t
+    go (back n e) = leaves-back (started m t root) n zeroRegisters m t e
+    go (done a h e) = absurd (not-refused (shown (started m t root .answer)) r a p)
+
+-- the flush of everything
+everything : Operation
+everything = record { kind = All; a = 0; b = 0; c = 0 }
+
+all-length : (t : List ℕ) → length (flushAll t) ≡ length t
+unfolding flushOf contextFits
+all-length t = flushed-length All everything t refl
+
+all-words : (t : List ℕ) (c p : ℕ) → c < contexts t → p < rowSize → trackWord (flushAll t) c p ≡ 0
+unfolding flushOf contextFits flushes
+all-words t c p h q = flushed-word All everything t refl c p h q
+
+all-contexts : (t : List ℕ) → contexts (flushAll t) ≡ contexts t
+unfolding contexts
+all-contexts t = ap (λ n. n / rowSize) (all-length t)
+
+pub start-words : (m t : List ℕ) (root : ℕ) → ((r : ℕ) → Given r (startConditions m t root) → ⊥) → (c p : ℕ) → c < contexts t → p < rowSize →
+    trackWord (started m t root .track) c p ≡ notedIn (fresh m root) c p 0
+start-words m t root h c p d q = go (begun m t root)
+  where
+    go : Begun (started m t root) m t root → trackWord (started m t root .track) c p ≡ notedIn (fresh m root) c p 0
+    go (back n e) = absurd (h (refusalNumber n) (start-exactly m t root (refusalNumber n) .0 (ap (λ (z : After). shown (z .answer)) e)))
+    go (done a k e) =
+        ap (λ l. trackWord l c p) e
+        ∙ noted-word m (startRegisters root) (flushAll t) (rw (all-contexts t) k) c p q
+        ∙ ap (notedIn (state (startRegisters root) m) c p) (all-words t c p d q)
+        ∙ (unfold fresh in refl)
+
+pub start-track-length : (m t : List ℕ) (root : ℕ) → length (started m t root .track) ≡ length t
+start-track-length m t root = go (begun m t root)
+  where
+    go : Begun (started m t root) m t root → length (started m t root .track) ≡ length t
+    go (back n e) = ap (λ (z : After). length (z .track)) e
+    go (done a k e) = ap length e ∙ noted-length m (startRegisters root) (flushAll t) (rw (all-contexts t) k) ∙ all-length t
+
+-- ── The two theorems ──
+
+pub total : Total
+total = record { exactly = exactly; unchanged = unchanged; startExactly = start-exactly; startUnchanged = start-unchanged }
+
+pub faithful : Faithful
+faithful = record
+    { plain = plain
+    ; words = words
+    ; trackLength = track-length
+    ; start = start-plain
+    ; startWords = start-words
+    ; startTrackLength = start-track-length
+    }
