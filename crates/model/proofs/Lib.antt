@@ -9,3 +9,4 @@ pub mod Words
 pub mod Track
 pub mod Effect
 pub mod Calls
+pub mod OddWords

@@ -11,6 +11,11 @@ pub push : {A B : Type 0} (f : A → B) (b : Bool) (x y : A) → f (cond b x y) 
 push f true x y = refl
 push f false x y = refl
 
+-- a choice of the same
+pub either : {A : Type 0} (b : Bool) (x : A) → cond b x x ≡ x
+either true x = refl
+either false x = refl
+
 -- both parts of a conjunction hold
 pub and-both : (x y : Bool) → (x && y) ≡ true → (x ≡ true) × (y ≡ true)
 and-both true y p = (refl, p)

@@ -15,7 +15,7 @@ use Rattle.model.specs.step.Memory.{loadAt}
 use Rattle.model.specs.step.Walk.{firstOf, firstFrom, firstAt, secondOf, secondFrom, secondAt, walkFrom, walkPage, sectionEntry, largeEntry, smallEntry, descriptorAt}
 use Rattle.model.specs.step.Track.{entryWord, isEntry, addEntry, addOutcome, staleWord}
 use Rattle.model.specs.Types.{Entry, FirstUnmapped, SecondUnmapped, Loaded, Value, Outside, FirstLevel, Failing, Table, Section, Outcome, Mapped, Failed}
-use Rattle.model.proofs.Tests.{same-test, eqb-same, and-both}
+use Rattle.model.proofs.Tests.{same-test, eqb-same, and-both, either}
 use Rattle.model.proofs.Walk.{translation}
 
 -- a frame number of 20 bits and an AP of 3
@@ -111,14 +111,11 @@ pub add-same : (w : ℕ) (e : Entry) → Fits e → addEntry w (entryWord e) ≡
 unfolding addEntry kept addTo
 add-same w e h = rw (single-same w) (go (eqb w 0) (eqb w (wordOf (entryOf w))) refl)
   where
-    other : (b : Bool) → cond b w w ≡ w
-    other true = refl
-    other false = refl
     go : (x y : Bool) → eqb w (wordOf (entryOf w)) ≡ y →
         cond x (entryWord e) (cond (eqb w (entryWord e)) w (cond y 1 w)) ≡ addTo (cond x empty (cond y (one (entryOf w)) several)) e w
     go true y p = word-same e h
     go false true p = ap (λ b. cond b w 1) (entry-same w e h (eqb-true w (wordOf (entryOf w)) p))
-    go false false p = other (eqb w (entryWord e))
+    go false false p = either (eqb w (entryWord e)) w
 
 pub note-same : (w : ℕ) (x : Outcome) → InRange x → addOutcome w x ≡ noted (translation x) w
 unfolding noted

@@ -2,15 +2,17 @@
 use Prim.Native.Nat.{ℕ, _<_}
 use mathlib.Core.Path.{_≡_}
 use mathlib.Core.Logic.{_↔_}
+use mathlib.Core.Bool.{true, false}
 use mathlib.Core.List.{List}
 use lib.ListN.{length}
 use Rattle.model.specs.Limits.{rowSize}
 use Rattle.model.specs.Numbers.{Result, ok, refused, shown}
-use Rattle.model.specs.reference.Plain.{State, fresh, carriedOut}
-use Rattle.model.specs.reference.Remembered.{trackWord, notedIn, wordAfter}
+use Rattle.model.specs.reference.Map.{Translation}
+use Rattle.model.specs.reference.Plain.{State, fresh, carriedOut, flushes}
+use Rattle.model.specs.reference.Remembered.{several, kept, wordOf, trackWord, stale, notedIn, wordAfter}
 use Rattle.model.specs.reference.Refusals.{Call, contexts, conditions, startConditions, Given}
 use Rattle.model.specs.step.Machine.{After, stepped, started}
-use Rattle.model.specs.Types.{Registers, Answer}
+use Rattle.model.specs.Types.{Registers, Entry}
 
 -- what one operation gives, and the state that it was given
 abbrev pub after : Call → After
@@ -53,3 +55,18 @@ pub record Faithful : Type 0 where
   pub startWords : (m t : List ℕ) (root : ℕ) → ((r : ℕ) → Given r (startConditions m t root) → ⊥) → (c p : ℕ) → c < contexts t → p < rowSize →
     trackWord (started m t root .track) c p ≡ notedIn (fresh m root) c p 0
   pub startTrackLength : (m t : List ℕ) (root : ℕ) → length (started m t root .track) ≡ length t
+
+-- Words that no start and no operation leaves, but that may be lent.
+pub record OddWords : Type 0 where
+  -- a word that is neither 0 nor the word of an entry counts as several
+  pub counts : (w : ℕ) → (w ≡ 0 → ⊥) → ((e : Entry) → e .frame < 0x100000 → e .ap < 8 → w ≡ wordOf e → ⊥) → kept w ≡ several
+  -- a word that counts as several stays as found under noting
+  pub stays : (x : Call) → ((r : ℕ) → Given r (conditions x) → ⊥) → (c p : ℕ) → c < contexts (x .track) → p < rowSize →
+    kept (trackWord (x .track) c p) ≡ several → flushes (x .operation .kind) (x .operation) c p ≡ false →
+    trackWord (after x .track) c p ≡ trackWord (x .track) c p
+  -- its page is stale, whatever the tables say
+  pub isStale : (t : List ℕ) (c p : ℕ) (y : Translation) → kept (trackWord t c p) ≡ several → stale t c p y ≡ true
+  -- a flush that names it empties it, and noting follows as for any empty set
+  pub goes : (x : Call) → ((r : ℕ) → Given r (conditions x) → ⊥) → (c p : ℕ) → c < contexts (x .track) → p < rowSize →
+    flushes (x .operation .kind) (x .operation) c p ≡ true →
+    trackWord (after x .track) c p ≡ notedIn (carriedOut (x .operation) (before x) .1) c p 0
