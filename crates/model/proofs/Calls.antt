@@ -110,10 +110,13 @@ step-same x = go (firstFailing (checksOf x)) refl ∙ ap (λ y. answerBy y (x .o
       where
         k : Kind
         k = x .operation .kind
+
         a : ℕ
         a = x .operation .a
+
         b : ℕ
         b = x .operation .b
+
         c : ℕ
         c = x .operation .c
 
@@ -179,8 +182,10 @@ exactly x r = (to, from)
     go : (y : Option ℕ) → firstHolding (conditions x) ≡ y → answerBy y (x .operation) (before x) .0 ≡ refused r → Given r (conditions x)
     go (some n) e p = first-given (conditions x) r (e ∙ ap some (refused-number r n (unfold answerBy in p)))
     go none e p = absurd (never-refused (x .operation) (before x) r (unfold answerBy in p))
+
     to : shown (after x .answer) ≡ refused r → Given r (conditions x)
     to p = go (firstHolding (conditions x)) refl (sym (ap (λ (y : Result × State). y .0) (step-same x)) ∙ p)
+
     from : Given r (conditions x) → shown (after x .answer) ≡ refused r
     from g =
         ap (λ (y : Result × State). y .0) (step-same x)
@@ -241,11 +246,11 @@ ended x = go (firstFailing (checksOf x))
     go Pass = operate-ended (x .operation .kind) (x .operation) (x .registers) (x .memory) (x .track)
 
 leaves-back : (y : After) (n : Refusal) (r : Registers) (m t : List ℕ) → y ≡ turnedBack n r m t → Leaves y r m t
-leaves-back y n r m t e = record
-    { registers = ap (λ (z : After). z .registers) e
-    ; memory = ap (λ (z : After). z .memory) e
-    ; track = ap (λ (z : After). z .track) e
-    }
+leaves-back y n r m t e = record {
+  registers = ap (λ (z : After). z .registers) e;
+  memory = ap (λ (z : After). z .memory) e;
+  track = ap (λ (z : After). z .track) e;
+}
 
 pub unchanged : (x : Call) (r : ℕ) → shown (after x .answer) ≡ refused r → Leaves (after x) (x .registers) (x .memory) (x .track)
 unchanged x r p = go (ended x)
@@ -299,11 +304,11 @@ passed-call x p =
     let all = passed (checksOf x) p in
     let given : x .registers .context < contexts (x .track) = context-in-range (x .registers) (contexts (x .track)) (all .1 .0) in
     let named : contextFits (x .operation .kind) (x .operation .a) (x .operation .b) (contexts (x .track)) ≡ true = all .1 .1 .1 .1 .1 .1 .0 in
-    record
-      { given = given
-      ; named = named
-      ; left = rw p (context-left (x .operation .kind) (x .operation) (x .registers) (x .memory) (x .track) given named)
-      }
+    record {
+      given = given;
+      named = named;
+      left = rw p (context-left (x .operation .kind) (x .operation) (x .registers) (x .memory) (x .track) given named);
+    }
 
 -- a call that is not refused has passed the checks
 passes : (xs : List (Bool × Refusal)) (ys : List (ℕ × Bool)) → firstHolding (asConditions xs ++ ys) ≡ none → firstFailing xs ≡ Pass
@@ -322,8 +327,10 @@ words x h c p d q = go (ended x)
   where
     o : Operation
     o = x .operation
+
     y : After
     y = after x
+
     go : Ended (after x) (x .registers) (x .memory) (x .track) (flushedBy x) →
         trackWord (after x .track) c p ≡ wordAfter (x .operation) (carriedOut (x .operation) (before x) .1) c p (trackWord (x .track) c p)
     go (back n e) = absurd (h (refusalNumber n) (exactly x (refusalNumber n) .0 (ap (λ (z : After). shown (z .answer)) e)))
@@ -376,8 +383,10 @@ start-exactly m t root r = (to, from)
     go : (y : Option ℕ) → firstHolding (startConditions m t root) ≡ y → startedAs y m root .0 ≡ refused r → Given r (startConditions m t root)
     go (some n) e p = first-given (startConditions m t root) r (e ∙ ap some (refused-number r n (unfold startedAs in p)))
     go none e p = absurd (not-refused (ok 0) r (unfold isRefused in refl) (unfold startedAs in p))
+
     to : shown (started m t root .answer) ≡ refused r → Given r (startConditions m t root)
     to p = go (firstHolding (startConditions m t root)) refl (sym (ap (λ (y : Result × State). y .0) (start-same m t root)) ∙ p)
+
     from : Given r (startConditions m t root) → shown (started m t root .answer) ≡ refused r
     from g =
         ap (λ (y : Result × State). y .0) (start-same m t root)
@@ -459,11 +468,11 @@ pub total : Total
 total = record { exactly = exactly; unchanged = unchanged; startExactly = start-exactly; startUnchanged = start-unchanged }
 
 pub faithful : Faithful
-faithful = record
-    { plain = plain
-    ; words = words
-    ; trackLength = track-length
-    ; start = start-plain
-    ; startWords = start-words
-    ; startTrackLength = start-track-length
-    }
+faithful = record {
+  plain = plain;
+  words = words;
+  trackLength = track-length;
+  start = start-plain;
+  startWords = start-words;
+  startTrackLength = start-track-length;
+}

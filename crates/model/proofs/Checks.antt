@@ -54,14 +54,14 @@ value-test b c = go (eqb b 1) (eqb b 2) (eqb b 4) refl refl refl
     go : (x y z : Bool) → eqb b 1 ≡ x → eqb b 2 ≡ y → eqb b 4 ≡ z →
         not (cond x (ltb c 256) (cond y (ltb c 65536) (cond z (ltb c wordLimit) true))) ≡ (x && leb 0x100 c || y && leb 0x10000 c || z && leb 0x100000000 c)
     go true y z p q r =
-      let one : b ≡ 1 = eqb-true b 1 p in
-      let y-is : y ≡ false = sym q ∙ ne-eqb b 2 (omega arith) in
-      let z-is : z ≡ false = sym r ∙ ne-eqb b 4 (omega arith) in
-      rw (y-is, z-is) (not-ltb c 256 ∙ sym (or-false (leb 256 c) ) ∙ sym (or-false (leb 256 c || false)))
+        let one : b ≡ 1 = eqb-true b 1 p in
+        let y-is : y ≡ false = sym q ∙ ne-eqb b 2 (omega arith) in
+        let z-is : z ≡ false = sym r ∙ ne-eqb b 4 (omega arith) in
+        rw (y-is, z-is) (not-ltb c 256 ∙ sym (or-false (leb 256 c)) ∙ sym (or-false (leb 256 c || false)))
     go false true z p q r =
-      let two : b ≡ 2 = eqb-true b 2 q in
-      let z-is : z ≡ false = sym r ∙ ne-eqb b 4 (omega arith) in
-      rw z-is (not-ltb c 65536 ∙ sym (or-false (leb 65536 c)))
+        let two : b ≡ 2 = eqb-true b 2 q in
+        let z-is : z ≡ false = sym r ∙ ne-eqb b 4 (omega arith) in
+        rw z-is (not-ltb c 65536 ∙ sym (or-false (leb 65536 c)))
     go false false true p q r = not-ltb c wordLimit
     go false false false p q r = refl
 
@@ -126,12 +126,13 @@ track-test n =
   where
     whole : eqb (n % rowSize) 0 ≡ eqb n (rowSize * (n / rowSize))
     whole = eqb-same (n % rowSize) 0 n (rowSize * (n / rowSize)) (λ e. omega arith) (λ e. omega arith)
+
     go : (x : Bool) → eqb n (rowSize * (n / rowSize)) ≡ x →
         (x && leb rowSize n && leb n (contextsMost * rowSize)) ≡ (x && leb 1 (n / rowSize) && leb (n / rowSize) contextsMost)
     go false e = refl
     go true e =
-      let rows : n ≡ rowSize * (n / rowSize) = eqb-true _ _ e in
-      ap₂ _&&_
+        let rows : n ≡ rowSize * (n / rowSize) = eqb-true _ _ e in
+        ap₂ _&&_
         (leb-same rowSize n 1 (n / rowSize) (λ h. omega arith) (λ h. omega arith))
         (leb-same n (contextsMost * rowSize) (n / rowSize) contextsMost (λ h. omega arith) (λ h. omega arith))
 
@@ -140,8 +141,8 @@ unfolding lengthsFit memoryFits refuses13 contexts
 lengths-same m t =
     not-two (memoryFits (length m)) (trackFits (length t))
     ∙ ap₂ (λ x y. not x || not y)
-      (three-and (eqb (length m % memoryUnit) 0) (leb memoryUnit (length m)) (leb (length m) memoryMost))
-      (track-test (length t))
+    (three-and (eqb (length m % memoryUnit) 0) (leb memoryUnit (length m)) (leb (length m) memoryMost))
+    (track-test (length t))
 
 -- 14
 pub registers-same : (r : Registers) (n : ℕ) → not (registersFit r n) ≡ refuses14 r n
@@ -191,10 +192,13 @@ checks-same x = λ i.
   where
     k : Kind
     k = x .operation .kind
+
     a : ℕ
     a = x .operation .a
+
     b : ℕ
     b = x .operation .b
+
     c : ℕ
     c = x .operation .c
 

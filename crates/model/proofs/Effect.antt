@@ -58,10 +58,10 @@ granted-same (Failed f) writes size a v r m = refl
 granted-same (Mapped e) writes size a v r m =
     push (taken writes size v (state r m)) (permitted (e .ap) (r .mode) writes) _ (Fails Permission)
     ∙ ap (λ y. cond (permitted (e .ap) (r .mode) writes) y (fault 4, state r m))
-      (push (taken writes size v (state r m)) (within size m (physicalOf e a)) (Physical (physicalOf e a)) (Fails AccessOutside)
-      ∙ ap (λ b. cond b (touched writes (physicalOf e a) (bytesOf size) v (state r m)) (fault 7, state r m)) (within-same size m (physicalOf e a)))
+    (push (taken writes size v (state r m)) (within size m (physicalOf e a)) (Physical (physicalOf e a)) (Fails AccessOutside)
+    ∙ ap (λ b. cond b (touched writes (physicalOf e a) (bytesOf size) v (state r m)) (fault 7, state r m)) (within-same size m (physicalOf e a)))
     ∙ ap (λ b. cond b (cond (inMemory m (physicalOf e a) (bytesOf size)) (touched writes (physicalOf e a) (bytesOf size) v (state r m)) (fault 7, state r m)) (fault 4, state r m))
-      (rights-same (e .ap) (r .mode) writes)
+    (rights-same (e .ap) (r .mode) writes)
 
 decided-same : (x : Outcome) (w : ℕ) (writes : Bool) (size : Size) (a v : ℕ) (r : Registers) (m : List ℕ) →
     taken writes size v (state r m) (decided x w (r .mode) writes size a m)
@@ -70,8 +70,8 @@ unfolding decided aligned taken
 decided-same x w writes size a v r m =
     push (taken writes size v (state r m)) (eqb (a % bytesOf size) 0) _ (Fails Alignment)
     ∙ ap (λ y. cond (eqb (a % bytesOf size) 0) y (fault 1, state r m))
-      (push (taken writes size v (state r m)) (staleWord w x) Stale _
-      ∙ ap (λ y. cond (staleWord w x) (refused 16, state r m) y) (granted-same x writes size a v r m))
+    (push (taken writes size v (state r m)) (staleWord w x) Stale _
+    ∙ ap (λ y. cond (staleWord w x) (refused 16, state r m) y) (granted-same x writes size a v r m))
 
 -- the stale test of an access
 stale-at : (r : Registers) (m t : List ℕ) (a : ℕ) →

@@ -35,10 +35,10 @@ pub record Acts (size : ℕ) (f : List ℕ → List ℕ) (g : ℕ → ℕ → �
   pub word : (row : List ℕ) (p : ℕ) → length row ≡ size → p < size → getD (f row) p 0 ≡ g p (getD row p 0)
 
 pub acts-words : (size : ℕ) (g : ℕ → ℕ → ℕ) → Acts size (mapWords g) g
-acts-words size g = record
-    { keeps = λ row e. length-mapFirst g 0 (length row) row ∙ e
-    ; word = λ row p e h. getD-mapWords g row p (rw e h)
-    }
+acts-words size g = record {
+  keeps = λ row e. length-mapFirst g 0 (length row) row ∙ e;
+  word = λ row p e h. getD-mapWords g row p (rw e h);
+}
 
 -- a word of an earlier row stands before the row c
 earlier : (size c d p : ℕ) → d < c → p < size → d * size + p < c * size
@@ -105,6 +105,7 @@ module _ {size : ℕ} {f : List ℕ → List ℕ} {g : ℕ → ℕ → ℕ} (act
     where
       later : (k : ℕ) → d * size + p ≡ c * size + (size + k) → getD (inRow size c f l) (d * size + p) 0 ≡ getD l (d * size + p) 0
       later k e = rw e (word-after k)
+
       go : (d < c) ⊎ (c < d) → getD (inRow size c f l) (d * size + p) 0 ≡ getD l (d * size + p) 0
       go (inl q) = word-before (d * size + p) (earlier size c d p q h)
       go (inr q) =
@@ -143,6 +144,7 @@ module _ {size : ℕ} {f : List ℕ → List ℕ} {g : ℕ → ℕ → ℕ} (act
     where
       w : ℕ
       w = getD l (d * size + p) 0
+
       go : (b : Bool) → eqb d k ≡ b → cond b (g p (cond (ltb d k) (g p w) w)) (cond (ltb d k) (g p w) w) ≡ cond (ltb d (suc k)) (g p w) w
       go true e = let same = eqb-true d k e in rw (le-ltb d k (omega arith), lt-ltb d (suc k) (omega arith))
       go false e =

@@ -38,10 +38,10 @@ emptied page p w = cond (eqb p page) 0 w
 
 acts-page : (page : ℕ) → Acts rowSize (emptyPage page) (emptied page)
 unfolding emptied
-acts-page page = record
-    { keeps = λ row e. length-set row page 0 ∙ e
-    ; word = λ row p e h. go row p (rw e h) (eqb p page) refl
-    }
+acts-page page = record {
+  keeps = λ row e. length-set row page 0 ∙ e;
+  word = λ row p e h. go row p (rw e h) (eqb p page) refl;
+}
   where
     go : (row : List ℕ) (p : ℕ) → p < length row → (b : Bool) → eqb p page ≡ b → getD (set row page 0) p 0 ≡ cond b 0 (getD row p 0)
     go row p h true e = ap (λ n. getD (set row n 0) p 0) (sym (eqb-true p page e)) ∙ getD-set-same row p 0 0 h

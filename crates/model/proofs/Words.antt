@@ -73,6 +73,7 @@ single-same w = go (ltb w wordLimit) refl
   where
     low : w < wordLimit → eqb (w % 512) 2 ≡ eqb w (w / 4096 % 1048576 * 4096 + w / 512 % 8 * 512 + 2)
     low h = eqb-same (w % 512) 2 w (w / 4096 % 1048576 * 4096 + w / 512 % 8 * 512 + 2) (λ q. omega arith) (λ q. omega arith)
+
     go : (b : Bool) → ltb w wordLimit ≡ b → cond b (eqb (w % 512) 2) false ≡ eqb w (w / 4096 % 1048576 * 4096 + w / 512 % 8 * 512 + 2)
     go true e = low (ltb-true w wordLimit e)
     go false e = let h = ltb-false w wordLimit e in sym (ne-eqb w (w / 4096 % 1048576 * 4096 + w / 512 % 8 * 512 + 2) (omega arith))
@@ -84,10 +85,13 @@ decoded e h = λ i. record { frame = frame-is i; ap = ap-is i }
   where
     upper : (e .frame * 4096 + e .ap * 512 + 2) / 4096 ≡ e .frame
     upper = omega arith
+
     frame-is : (e .frame * 4096 + e .ap * 512 + 2) / 4096 % 1048576 ≡ e .frame
     frame-is = ap (λ n. n % 1048576) upper ∙ mod-eq-of-lt (h .0)
+
     lower : (e .frame * 4096 + e .ap * 512 + 2) / 512 ≡ e .frame * 8 + e .ap
     lower = omega arith
+
     ap-is : (e .frame * 4096 + e .ap * 512 + 2) / 512 % 8 ≡ e .ap
     ap-is = ap (λ n. n % 8) lower ∙ (let q : (e .frame * 8 + e .ap) % 8 ≡ e .ap = omega arith in q)
 
@@ -100,6 +104,7 @@ entry-same w e h is = same-test (eqb w (entryWord e)) (eqb (w / 4096 % 1048576) 
     to p =
         let q : entryOf w ≡ e = ap entryOf (eqb-true w (entryWord e) p ∙ word-same e h) ∙ decoded e h in
         rw (eq-eqb (entryOf w .frame) (e .frame) (ap (λ (x : Entry). x .frame) q), eq-eqb (entryOf w .ap) (e .ap) (ap (λ (x : Entry). x .ap) q))
+
     from : (eqb (w / 4096 % 1048576) (e .frame) && eqb (w / 512 % 8) (e .ap)) ≡ true → eqb w (entryWord e) ≡ true
     from p =
         let q = and-both (eqb (w / 4096 % 1048576) (e .frame)) (eqb (w / 512 % 8) (e .ap)) p in
@@ -134,6 +139,7 @@ stale-entry w e h = go (eqb w 0) (eqb w (wordOf (entryOf w))) refl
     flip : (b : Bool) → cond b false true ≡ not b
     flip true = refl
     flip false = refl
+
     go : (x y : Bool) → eqb w (wordOf (entryOf w)) ≡ y →
         cond x false (cond (eqb w (entryWord e)) false true) ≡ differs (cond x empty (cond y (one (entryOf w)) several)) (found e)
     go true y p = refl

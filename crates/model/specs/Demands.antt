@@ -40,7 +40,7 @@ pub record Total : Type 0 where
   -- the same of start, which returns zero registers when refused
   pub startExactly : (m t : List ℕ) (root r : ℕ) → (shown (started m t root .answer) ≡ refused r) ↔ Given r (startConditions m t root)
   pub startUnchanged : (m t : List ℕ) (root r : ℕ) → shown (started m t root .answer) ≡ refused r →
-    Leaves (started m t root) (record { root = 0; context = 0; mode = 0 }) m t
+      Leaves (started m t root) (record { root = 0; context = 0; mode = 0 }) m t
 
 -- A call that is not refused is carried out by the rules.
 pub record Faithful : Type 0 where
@@ -48,12 +48,12 @@ pub record Faithful : Type 0 where
   pub plain : (x : Call) → ((r : ℕ) → Given r (conditions x) → ⊥) → visible (after x) ≡ carriedOut (x .operation) (before x)
   -- it leaves in each word of the track what is remembered of its context and page
   pub words : (x : Call) → ((r : ℕ) → Given r (conditions x) → ⊥) → (c p : ℕ) → c < contexts (x .track) → p < rowSize →
-    trackWord (after x .track) c p ≡ wordAfter (x .operation) (carriedOut (x .operation) (before x) .1) c p (trackWord (x .track) c p)
+      trackWord (after x .track) c p ≡ wordAfter (x .operation) (carriedOut (x .operation) (before x) .1) c p (trackWord (x .track) c p)
   pub trackLength : (x : Call) → length (after x .track) ≡ length (x .track)
   -- start gives the plain machine's first state, and a track that remembers what the tables map now in context 0
   pub start : (m t : List ℕ) (root : ℕ) → ((r : ℕ) → Given r (startConditions m t root) → ⊥) → visible (started m t root) ≡ (ok 0, fresh m root)
   pub startWords : (m t : List ℕ) (root : ℕ) → ((r : ℕ) → Given r (startConditions m t root) → ⊥) → (c p : ℕ) → c < contexts t → p < rowSize →
-    trackWord (started m t root .track) c p ≡ notedIn (fresh m root) c p 0
+      trackWord (started m t root .track) c p ≡ notedIn (fresh m root) c p 0
   pub startTrackLength : (m t : List ℕ) (root : ℕ) → length (started m t root .track) ≡ length t
 
 -- Words that no start and no operation leaves, but that may be lent.
@@ -62,11 +62,11 @@ pub record OddWords : Type 0 where
   pub counts : (w : ℕ) → (w ≡ 0 → ⊥) → ((e : Entry) → e .frame < 0x100000 → e .ap < 8 → w ≡ wordOf e → ⊥) → kept w ≡ several
   -- a word that counts as several stays as found under noting
   pub stays : (x : Call) → ((r : ℕ) → Given r (conditions x) → ⊥) → (c p : ℕ) → c < contexts (x .track) → p < rowSize →
-    kept (trackWord (x .track) c p) ≡ several → flushes (x .operation .kind) (x .operation) c p ≡ false →
-    trackWord (after x .track) c p ≡ trackWord (x .track) c p
+      kept (trackWord (x .track) c p) ≡ several → flushes (x .operation .kind) (x .operation) c p ≡ false →
+      trackWord (after x .track) c p ≡ trackWord (x .track) c p
   -- its page is stale, whatever the tables say
   pub isStale : (t : List ℕ) (c p : ℕ) (y : Translation) → kept (trackWord t c p) ≡ several → stale t c p y ≡ true
   -- a flush that names it empties it, and noting follows as for any empty set
   pub goes : (x : Call) → ((r : ℕ) → Given r (conditions x) → ⊥) → (c p : ℕ) → c < contexts (x .track) → p < rowSize →
-    flushes (x .operation .kind) (x .operation) c p ≡ true →
-    trackWord (after x .track) c p ≡ notedIn (carriedOut (x .operation) (before x) .1) c p 0
+      flushes (x .operation .kind) (x .operation) c p ≡ true →
+      trackWord (after x .track) c p ≡ notedIn (carriedOut (x .operation) (before x) .1) c p 0
