@@ -11,14 +11,11 @@ use lib.ListN.{length}
 use borrow.Author.Tests.{ltb-true, leb-true}
 use Rattle.model.specs.Limits.{rowSize, contextsMost}
 use Rattle.model.specs.Numbers.{Result, ok, fault, refused, shown, refusalNumber}
-use Rattle.model.specs.reference.Map.{Translation, found, failed, inMemory, physical, rightOf, allows}
-use Rattle.model.specs.reference.Plain.{State, fresh, aligned, touched, translated, access, setRegisters, effect, outcome, carriedOut, flushes}
-use Rattle.model.specs.reference.Remembered.{trackWord, notedIn, wordAfter}
-use Rattle.model.specs.reference.Refusals.{Call, contexts, conditions, startConditions, Given, refuses16}
+use Rattle.model.specs.reference.Rules.{Translation, found, failed, inMemory, physical, rightOf, allows, State, fresh, aligned, touched, translated, access, setRegisters, effect, outcome, carriedOut, flushes, trackWord, notedIn, wordAfter, contexts, conditions, startConditions, Given, refuses16}
 use Rattle.model.specs.step.Track.{noteTrack, flushAll}
 use Rattle.model.specs.step.Checks.{checks, startChecks, firstFailing, contextFits, registersFit, sizeFits, rootFits, lengthsFit, memoryFits, trackFits}
 use Rattle.model.specs.step.Machine.{After, sizeOf, accessAt, readFrom, writeTo, readStep, writeStep, checked, startedBy, operate, stepped, started, startRegisters, zeroRegisters, turnedBack}
-use Rattle.model.specs.Demands.{after, before, visible, Leaves, Total, Faithful}
+use Rattle.model.specs.Demands.{Call, conditionsOf, after, before, visible, Leaves, Total, Faithful}
 use Rattle.model.specs.Types.{Registers, Operation, Kind, Read, Write, Root, Asid, Mode, All, Addr, Ctx, AddrCtx, Refusal, StalePage, Size, Check, Pass, Refuse, Access, Stale, Fails, Physical}
 use Rattle.model.proofs.Tests.{push, and-both}
 use Rattle.model.proofs.Checks.{asConditions, staleCondition, checks-same, start-checks-same}
@@ -94,10 +91,10 @@ size-passed : (x : Call) → firstFailing (checksOf x) ≡ Pass → sizeFits (x 
 unfolding Hold checks
 size-passed x p = passed (checksOf x) p .1 .1 .0
 
-conditions-by : (x : Call) → firstHolding (conditions x) ≡ orElse (firstFailing (checksOf x)) (firstHolding (staleCondition x ∷ []))
+conditions-by : (x : Call) → firstHolding (conditionsOf x) ≡ orElse (firstFailing (checksOf x)) (firstHolding (staleCondition x ∷ []))
 conditions-by x = ap firstHolding (sym (checks-same x)) ∙ first-failing (checksOf x) (staleCondition x ∷ [])
 
-step-same : (x : Call) → visible (after x) ≡ answerBy (firstHolding (conditions x)) (x .operation) (before x)
+step-same : (x : Call) → visible (after x) ≡ answerBy (firstHolding (conditionsOf x)) (x .operation) (before x)
 unfolding stepped
 step-same x = go (firstFailing (checksOf x)) refl ∙ ap (λ y. answerBy y (x .operation) (before x)) (sym (conditions-by x))
   where
@@ -176,20 +173,20 @@ never-refused o s r p = not-refused (carriedOut o s .0) r (effect-answers (o .ki
 refused-number : (r n : ℕ) → _≡_ {A = Result} (refused n) (refused r) → n ≡ r
 refused-number r n p = cc
 
-pub exactly : (x : Call) (r : ℕ) → (shown (after x .answer) ≡ refused r) ↔ Given r (conditions x)
+pub exactly : (x : Call) (r : ℕ) → (shown (after x .answer) ≡ refused r) ↔ Given r (conditionsOf x)
 exactly x r = (to, from)
   where
-    go : (y : Option ℕ) → firstHolding (conditions x) ≡ y → answerBy y (x .operation) (before x) .0 ≡ refused r → Given r (conditions x)
-    go (some n) e p = first-given (conditions x) r (e ∙ ap some (refused-number r n (unfold answerBy in p)))
+    go : (y : Option ℕ) → firstHolding (conditionsOf x) ≡ y → answerBy y (x .operation) (before x) .0 ≡ refused r → Given r (conditionsOf x)
+    go (some n) e p = first-given (conditionsOf x) r (e ∙ ap some (refused-number r n (unfold answerBy in p)))
     go none e p = absurd (never-refused (x .operation) (before x) r (unfold answerBy in p))
 
-    to : shown (after x .answer) ≡ refused r → Given r (conditions x)
-    to p = go (firstHolding (conditions x)) refl (sym (ap (λ (y : Result × State). y .0) (step-same x)) ∙ p)
+    to : shown (after x .answer) ≡ refused r → Given r (conditionsOf x)
+    to p = go (firstHolding (conditionsOf x)) refl (sym (ap (λ (y : Result × State). y .0) (step-same x)) ∙ p)
 
-    from : Given r (conditions x) → shown (after x .answer) ≡ refused r
+    from : Given r (conditionsOf x) → shown (after x .answer) ≡ refused r
     from g =
         ap (λ (y : Result × State). y .0) (step-same x)
-        ∙ ap (λ y. answerBy y (x .operation) (before x) .0) (given-first (conditions x) r g)
+        ∙ ap (λ y. answerBy y (x .operation) (before x) .0) (given-first (conditionsOf x) r g)
         ∙ (unfold answerBy in refl)
 
 -- no condition holds: none is the first
@@ -200,9 +197,9 @@ none-holds xs h = go (firstHolding xs) refl
     go none e = refl
     go (some r) e = absurd (h r (first-given xs r e))
 
-pub plain : (x : Call) → ((r : ℕ) → Given r (conditions x) → ⊥) → visible (after x) ≡ carriedOut (x .operation) (before x)
+pub plain : (x : Call) → ((r : ℕ) → Given r (conditionsOf x) → ⊥) → visible (after x) ≡ carriedOut (x .operation) (before x)
 plain x h =
-    step-same x ∙ ap (λ y. answerBy y (x .operation) (before x)) (none-holds (conditions x) h) ∙ (unfold answerBy in refl)
+    step-same x ∙ ap (λ y. answerBy y (x .operation) (before x)) (none-holds (conditionsOf x) h) ∙ (unfold answerBy in refl)
 
 -- ── What is left in the track ──
 
@@ -318,10 +315,10 @@ passes xs ys p = go (firstFailing xs) (sym (first-failing xs ys) ∙ p)
     go Pass e = refl
     go (Refuse n) e = absurd (none-some (refusalNumber n) (sym (unfold orElse in e)))
 
-call-passes : (x : Call) → ((r : ℕ) → Given r (conditions x) → ⊥) → Passed x
-call-passes x h = passed-call x (passes (checksOf x) (staleCondition x ∷ []) (ap firstHolding (checks-same x) ∙ none-holds (conditions x) h))
+call-passes : (x : Call) → ((r : ℕ) → Given r (conditionsOf x) → ⊥) → Passed x
+call-passes x h = passed-call x (passes (checksOf x) (staleCondition x ∷ []) (ap firstHolding (checks-same x) ∙ none-holds (conditionsOf x) h))
 
-pub words : (x : Call) → ((r : ℕ) → Given r (conditions x) → ⊥) → (c p : ℕ) → c < contexts (x .track) → p < rowSize →
+pub words : (x : Call) → ((r : ℕ) → Given r (conditionsOf x) → ⊥) → (c p : ℕ) → c < contexts (x .track) → p < rowSize →
     trackWord (after x .track) c p ≡ wordAfter (x .operation) (carriedOut (x .operation) (before x) .1) c p (trackWord (x .track) c p)
 words x h c p d q = go (ended x)
   where
@@ -346,7 +343,7 @@ track-length x = go (ended x)
     go : Ended (after x) (x .registers) (x .memory) (x .track) (flushedBy x) → length (after x .track) ≡ length (x .track)
     go (back n e) = ap (λ (z : After). length (z .track)) e
     go (done a e) =
-        let h : (r : ℕ) → Given r (conditions x) → ⊥ = λ r g. not-refused (shown (after x .answer)) r a (exactly x r .1 g) in
+        let h : (r : ℕ) → Given r (conditionsOf x) → ⊥ = λ r g. not-refused (shown (after x .answer)) r a (exactly x r .1 g) in
         let ok = call-passes x h in
         let same = flushed-length (x .operation .kind) (x .operation) (x .track) (ok .named) in
         ap length e

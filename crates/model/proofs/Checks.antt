@@ -9,8 +9,9 @@ use lib.ListN.{length}
 use borrow.Author.Tests.{eqb-true, eqb-false, eq-eqb, ne-eqb}
 use Rattle.model.specs.Limits.{addressLimit, rowSize, rootAlignment, memoryUnit, memoryMost, contextsMost, wordLimit}
 use Rattle.model.specs.Numbers.{refusalNumber}
-use Rattle.model.specs.reference.Refusals.{Call, among, contexts, refuses7, refuses8, refuses9, refuses10, refuses11, refuses12, refuses13, refuses14, refuses15, refuses16, conditions, startConditions}
+use Rattle.model.specs.reference.Rules.{among, contexts, refuses7, refuses8, refuses9, refuses10, refuses11, refuses12, refuses13, refuses14, refuses15, refuses16, conditions, startConditions}
 use Rattle.model.specs.step.Checks.{memoryFits, trackFits, lengthsFit, rootFits, registersFit, isSize, sizeFits, addressFits, fitsSize, valueFits, newRootFits, contextFits, modeFits, mayAsk, checks, startChecks}
+use Rattle.model.specs.Demands.{Call, conditionsOf}
 use Rattle.model.specs.Types.{Registers, Operation, Kind, Read, Write, Root, Asid, Mode, All, Addr, Ctx, AddrCtx, Refusal}
 use Rattle.model.proofs.Tests.{leb-same, eqb-same, not-ltb, not-leb, or-false, three-and, three-or, not-three, not-two}
 
@@ -175,7 +176,7 @@ staleCondition x = (16, refuses16 (x .operation) (x .registers) (x .memory) (x .
 
 -- the checks of a step, then 16, are the conditions of the reference in their order
 pub checks-same : (x : Call) →
-    asConditions (checks (x .operation) (x .registers) (length (x .memory)) (length (x .track))) ++ (staleCondition x ∷ []) ≡ conditions x
+    asConditions (checks (x .operation) (x .registers) (length (x .memory)) (length (x .track))) ++ (staleCondition x ∷ []) ≡ conditionsOf x
 unfolding asConditions checks conditions contexts
 checks-same x = λ i.
     (13, lengths-same (x .memory) (x .track) i)

@@ -9,10 +9,7 @@ use lib.ListN.{length, getD}
 use borrow.Author.Tests.{eqb-true, eqb-false, eq-eqb, ne-eqb}
 use Rattle.model.specs.Limits.{pageSize, rowSize}
 use Rattle.model.specs.Numbers.{Result, ok, fault, refused, shown, faultNumber}
-use Rattle.model.specs.reference.Map.{Translation, found, failed, inMemory, value, walk, physical, rightOf, allows}
-use Rattle.model.specs.reference.Plain.{State, aligned, touched, translated, access, setRegisters, effect, outcome, carriedOut}
-use Rattle.model.specs.reference.Remembered.{trackWord, stale, kept, differs}
-use Rattle.model.specs.reference.Refusals.{among, refuses16}
+use Rattle.model.specs.reference.Rules.{Translation, found, failed, inMemory, value, walk, physical, rightOf, allows, State, aligned, touched, translated, access, setRegisters, effect, outcome, carriedOut, trackWord, stale, kept, differs, among, refuses16}
 use Rattle.model.specs.step.Memory.{bytesOf, within, numberAt, storedAt}
 use Rattle.model.specs.step.Walk.{walkPage}
 use Rattle.model.specs.step.Rights.{permitted}

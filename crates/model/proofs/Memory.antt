@@ -6,8 +6,7 @@ use mathlib.Core.List.{List}
 use native.Mathlib.Omega.{arith}
 use native.Mathlib.Numerals.{add-one, add-two}
 use lib.ListN.{getD, set}
-use Rattle.model.specs.reference.Map.{inMemory, value}
-use Rattle.model.specs.reference.Plain.{stored}
+use Rattle.model.specs.reference.Rules.{inMemory, value, stored}
 use Rattle.model.specs.step.Memory.{bytesOf, within, numberAt, halfAt, storedAt, halfStored}
 use Rattle.model.specs.Types.{Size, One, Two, Four}
 

@@ -7,11 +7,8 @@ use native.Mathlib.Omega.{arith}
 use lib.Dec.{eqb}
 use borrow.Author.Tests.{ne-eqb}
 use Rattle.model.specs.Limits.{pageSize, rowSize}
-use Rattle.model.specs.reference.Map.{Translation, found, failed, bits}
-use Rattle.model.specs.reference.Plain.{State, carriedOut, outcome, flushes}
-use Rattle.model.specs.reference.Remembered.{Kept, empty, one, several, wordOf, entryOf, kept, addTo, noted, differs, notedIn, wordAfter, trackWord, stale}
-use Rattle.model.specs.reference.Refusals.{Call, contexts, conditions, Given}
-use Rattle.model.specs.Demands.{after, before, OddWords}
+use Rattle.model.specs.reference.Rules.{Translation, found, failed, bits, State, carriedOut, outcome, flushes, Kept, empty, one, several, wordOf, entryOf, kept, addTo, noted, differs, notedIn, wordAfter, trackWord, stale, contexts, conditions, Given}
+use Rattle.model.specs.Demands.{Call, conditionsOf, after, before, OddWords}
 use Rattle.model.specs.Types.{Entry}
 use Rattle.model.proofs.Tests.{either}
 use Rattle.model.proofs.Calls.{words}
@@ -30,7 +27,7 @@ noted-in-stays : (s : State) (c p w : ℕ) → kept w ≡ several → notedIn s 
 unfolding notedIn
 noted-in-stays s c p w k = rw (noted-stays (outcome s (p * pageSize)) w k) (either (eqb c (s .registers .context)) w)
 
-stays : (x : Call) → ((r : ℕ) → Given r (conditions x) → ⊥) → (c p : ℕ) → c < contexts (x .track) → p < rowSize →
+stays : (x : Call) → ((r : ℕ) → Given r (conditionsOf x) → ⊥) → (c p : ℕ) → c < contexts (x .track) → p < rowSize →
     kept (trackWord (x .track) c p) ≡ several → flushes (x .operation .kind) (x .operation) c p ≡ false →
     trackWord (after x .track) c p ≡ trackWord (x .track) c p
 unfolding wordAfter
@@ -43,7 +40,7 @@ several-stale : (t : List ℕ) (c p : ℕ) (y : Translation) → kept (trackWord
 unfolding stale differs
 several-stale t c p y k = rw k
 
-goes : (x : Call) → ((r : ℕ) → Given r (conditions x) → ⊥) → (c p : ℕ) → c < contexts (x .track) → p < rowSize →
+goes : (x : Call) → ((r : ℕ) → Given r (conditionsOf x) → ⊥) → (c p : ℕ) → c < contexts (x .track) → p < rowSize →
     flushes (x .operation .kind) (x .operation) c p ≡ true →
     trackWord (after x .track) c p ≡ notedIn (carriedOut (x .operation) (before x) .1) c p 0
 unfolding wordAfter

@@ -6,7 +6,7 @@ use native.Mathlib.Omega.{arith}
 use lib.Dec.{eqb, leb}
 use lib.ListN.{getD, List·getD-eq-default}
 use borrow.Author.Tests.{le-leb, lt-leb, ne-eqb}
-use Rattle.model.specs.reference.Map.{Right, nothing, reading, writing, rights, rightOf, allows}
+use Rattle.model.specs.reference.Rules.{Right, nothing, reading, writing, rights, rightOf, allows}
 use Rattle.model.specs.step.Rights.{kernelRights, userRights, rightsOf, permitted}
 use Rattle.model.proofs.Tests.{push, allBelow, by-table}
 

@@ -9,10 +9,7 @@ use lib.ListN.{length, getD, set, length-set}
 use lib.Seq.{getD-set-same, getD-set-other}
 use borrow.Author.Tests.{eqb-true, eqb-false, lt-ltb, ltb-true}
 use Rattle.model.specs.Limits.{pageSize, rowSize}
-use Rattle.model.specs.reference.Map.{walk}
-use Rattle.model.specs.reference.Plain.{State, fresh, outcome, flushes}
-use Rattle.model.specs.reference.Remembered.{noted, notedIn, wordAfter, trackWord}
-use Rattle.model.specs.reference.Refusals.{contexts}
+use Rattle.model.specs.reference.Rules.{walk, State, fresh, outcome, flushes, noted, notedIn, wordAfter, trackWord, contexts}
 use Rattle.model.specs.step.Walk.{walkPage}
 use Rattle.model.specs.step.Rows.{mapWords, inRow, eachRow}
 use Rattle.model.specs.step.Checks.{contextFits}

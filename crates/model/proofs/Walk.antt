@@ -7,9 +7,9 @@ use native.Mathlib.Omega.{arith}
 use lib.Dec.{eqb}
 use Rattle.model.specs.Limits.{pageSize, sectionSize}
 use Rattle.model.specs.Numbers.{faultNumber}
-use Rattle.model.specs.reference.Map.{Translation, found, failed, inMemory, value, bits, descriptor, section, largePage, smallPage, pageWord, levelTwo, tableWord, walk}
+use Rattle.model.specs.reference.Rules.{Translation, found, failed, inMemory, value, bits, descriptor, section, largePage, smallPage, pageWord, tableWord, walk}
 use Rattle.model.specs.step.Memory.{within, numberAt, loadAt}
-use Rattle.model.specs.step.Walk.{sectionEntry, largeEntry, smallEntry, descriptorAt, firstOf, firstFrom, firstAt, secondOf, secondFrom, secondAt, walkFrom, walkPage}
+use Rattle.model.specs.step.Walk.{kindOf, superBit, tableOf, sectionEntry, largeEntry, smallEntry, descriptorAt, firstOf, firstFrom, firstAt, secondOf, secondFrom, secondAt, walkFrom, walkPage}
 use Rattle.model.specs.Types.{Entry, FirstUnmapped, SecondUnmapped, Four, Loaded, Value, Outside, FirstLevel, Failing, Table, Section, Outcome, Mapped, Failed}
 use Rattle.model.proofs.Tests.{push}
 use Rattle.model.proofs.Memory.{within-same, number-same}
@@ -32,7 +32,7 @@ small-same : (w : ℕ) → smallEntry w ≡ smallPage w
 unfolding smallPage bits
 small-same w = refl
 
-kind-same : (w : ℕ) → w % 4 ≡ bits 1 0 w
+kind-same : (w : ℕ) → kindOf w ≡ bits 1 0 w
 unfolding bits
 kind-same w = omega arith
 
@@ -46,10 +46,10 @@ second-tests a w false false = ap found (small-same w)
 
 second-same : (a w : ℕ) → translation (secondOf w (a / pageSize)) ≡ pageWord a w
 unfolding secondOf pageWord
-second-same a w = rw (sym (kind-same w)) (second-tests a w (eqb (w % 4) 0) (eqb (w % 4) 1))
+second-same a w = rw (sym (kind-same w)) (second-tests a w (eqb (kindOf w) 0) (eqb (kindOf w) 1))
 
-secondAt-same : (m : List ℕ) (table a : ℕ) → translation (secondAt m table (a / pageSize)) ≡ levelTwo m table a
-unfolding secondAt levelTwo descriptor loadAt
+secondAt-same : (m : List ℕ) (table a : ℕ) → translation (secondAt m table (a / pageSize)) ≡ descriptor m (table + 4 * (a / pageSize % 256)) 6 (pageWord a)
+unfolding secondAt descriptor loadAt
 secondAt-same m table a =
     let at : ℕ = table + 4 * (a / pageSize % 256) in
     push (λ x. translation (secondFrom x (a / pageSize))) (within Four m at) (Value (numberAt Four m at)) Outside
@@ -57,22 +57,26 @@ secondAt-same m table a =
     ∙ ap (λ b. cond b (pageWord a (value m at 4)) (failed 6)) (within-same Four m at)
 
 -- level one
-first-tests : (m : List ℕ) (a w : ℕ) (x y z : Bool) →
-    translation (walkFrom (cond x (Table (w / 1024 % 4194304 * 1024)) (cond y (cond z (Section (sectionEntry w (a / pageSize))) (Failing FirstUnmapped)) (Failing FirstUnmapped))) m (a / pageSize))
-    ≡ cond x (levelTwo m (bits 31 10 w * 1024) a) (cond (y && z) (found (section a w)) (failed 2))
+table-same : (w : ℕ) → tableOf w ≡ bits 31 10 w * 1024
 unfolding bits
-first-tests m a w true y z = secondAt-same m (w / 1024 % 4194304 * 1024) a
+table-same w = refl
+
+super-same : (w : ℕ) → superBit w ≡ bits 18 18 w
+unfolding bits
+super-same w = refl
+
+first-tests : (m : List ℕ) (a w : ℕ) (x y z : Bool) →
+    translation (walkFrom (cond x (Table (tableOf w)) (cond y (cond z (Section (sectionEntry w (a / pageSize))) (Failing FirstUnmapped)) (Failing FirstUnmapped))) m (a / pageSize))
+    ≡ cond x (descriptor m (bits 31 10 w * 1024 + 4 * (a / pageSize % 256)) 6 (pageWord a)) (cond (y && z) (found (section a w)) (failed 2))
+unfolding bits
+first-tests m a w true y z = secondAt-same m (tableOf w) a
 first-tests m a w false true true = ap found (section-same a w)
 first-tests m a w false true false = refl
 first-tests m a w false false z = refl
 
-super-same : (w : ℕ) → w / 262144 % 2 ≡ bits 18 18 w
-unfolding bits
-super-same w = refl
-
 first-same : (m : List ℕ) (a w : ℕ) → translation (walkFrom (firstOf w (a / pageSize)) m (a / pageSize)) ≡ tableWord m a w
 unfolding firstOf tableWord
-first-same m a w = rw (sym (kind-same w), sym (super-same w)) (first-tests m a w (eqb (w % 4) 1) (eqb (w % 4) 2) (eqb (w / 262144 % 2) 0))
+first-same m a w = rw (sym (kind-same w), sym (super-same w)) (first-tests m a w (eqb (kindOf w) 1) (eqb (kindOf w) 2) (eqb (superBit w) 0))
 
 place-same : (root a : ℕ) → root + 4 * (a / pageSize / 256) ≡ root + 4 * (a / sectionSize)
 place-same root a = omega arith

@@ -9,10 +9,9 @@ use lib.Dec.{eqb, ltb}
 use borrow.Author.Tests.{eqb-true, eqb-false, eq-eqb, ne-eqb, ltb-true, ltb-false, lt-ltb, le-ltb}
 use Rattle.model.specs.Limits.{wordLimit}
 use Rattle.model.specs.Numbers.{faultNumber}
-use Rattle.model.specs.reference.Map.{Translation, found, failed, bits}
-use Rattle.model.specs.reference.Remembered.{Kept, empty, one, several, wordOf, entryOf, kept, same, addTo, noted, differs}
+use Rattle.model.specs.reference.Rules.{Translation, found, failed, bits, Kept, empty, one, several, wordOf, entryOf, kept, same, addTo, noted, differs}
 use Rattle.model.specs.step.Memory.{loadAt}
-use Rattle.model.specs.step.Walk.{firstOf, firstFrom, firstAt, secondOf, secondFrom, secondAt, walkFrom, walkPage, sectionEntry, largeEntry, smallEntry, descriptorAt}
+use Rattle.model.specs.step.Walk.{kindOf, superBit, tableOf, firstOf, firstFrom, firstAt, secondOf, secondFrom, secondAt, walkFrom, walkPage, sectionEntry, largeEntry, smallEntry, descriptorAt}
 use Rattle.model.specs.step.Track.{entryWord, isEntry, addEntry, addOutcome, staleWord}
 use Rattle.model.specs.Types.{Entry, FirstUnmapped, SecondUnmapped, Loaded, Value, Outside, FirstLevel, Failing, Table, Section, Outcome, Mapped, Failed}
 use Rattle.model.proofs.Tests.{same-test, eqb-same, and-both, either}
@@ -30,7 +29,7 @@ InRange (Failed f) = Unit {0}
 
 second-range : (w page : ℕ) → InRange (secondOf w page)
 unfolding secondOf
-second-range w page = go (eqb (w % 4) 0) (eqb (w % 4) 1)
+second-range w page = go (eqb (kindOf w) 0) (eqb (kindOf w) 1)
   where
     go : (x y : Bool) → InRange (cond x (Failed SecondUnmapped) (cond y (Mapped (largeEntry w page)) (Mapped (smallEntry w))))
     go true y = tt
@@ -43,11 +42,11 @@ second-from Outside page = tt
 
 first-range : (m : List ℕ) (w page : ℕ) → InRange (walkFrom (firstOf w page) m page)
 unfolding firstOf secondAt
-first-range m w page = go (eqb (w % 4) 1) (eqb (w % 4) 2) (eqb (w / 262144 % 2) 0)
+first-range m w page = go (eqb (kindOf w) 1) (eqb (kindOf w) 2) (eqb (superBit w) 0)
   where
     go : (x y z : Bool) →
-        InRange (walkFrom (cond x (Table (w / 1024 % 4194304 * 1024)) (cond y (cond z (Section (sectionEntry w page)) (Failing FirstUnmapped)) (Failing FirstUnmapped))) m page)
-    go true y z = second-from (descriptorAt m (w / 1024 % 4194304 * 1024 + 4 * (page % 256))) page
+        InRange (walkFrom (cond x (Table (tableOf w)) (cond y (cond z (Section (sectionEntry w page)) (Failing FirstUnmapped)) (Failing FirstUnmapped))) m page)
+    go true y z = second-from (descriptorAt m (tableOf w + 4 * (page % 256))) page
     go false true true = (omega arith, omega arith)
     go false true false = tt
     go false false z = tt

@@ -2,17 +2,24 @@
 use Prim.Native.Nat.{ℕ, _<_}
 use mathlib.Core.Path.{_≡_}
 use mathlib.Core.Logic.{_↔_}
-use mathlib.Core.Bool.{true, false}
+use mathlib.Core.Bool.{Bool, true, false}
 use mathlib.Core.List.{List}
 use lib.ListN.{length}
 use Rattle.model.specs.Limits.{rowSize}
 use Rattle.model.specs.Numbers.{Result, ok, refused, shown}
-use Rattle.model.specs.reference.Map.{Translation}
-use Rattle.model.specs.reference.Plain.{State, fresh, carriedOut, flushes}
-use Rattle.model.specs.reference.Remembered.{several, kept, wordOf, trackWord, stale, notedIn, wordAfter}
-use Rattle.model.specs.reference.Refusals.{Call, contexts, conditions, startConditions, Given}
+use Rattle.model.specs.reference.Rules.{Translation, State, fresh, carriedOut, flushes, several, kept, wordOf, trackWord, stale, notedIn, wordAfter, contexts, conditions, startConditions, Given}
 use Rattle.model.specs.step.Machine.{After, stepped, started}
-use Rattle.model.specs.Types.{Registers, Entry}
+use Rattle.model.specs.Types.{Registers, Operation, Entry}
+
+-- What an operation is given: registers by value, memory and track lent.
+pub record Call : Type 0 where
+  pub operation : Operation
+  pub registers : Registers
+  pub memory : List ℕ
+  pub track : List ℕ
+
+abbrev pub conditionsOf : Call → List (ℕ × Bool)
+conditionsOf x = conditions (x .operation) (x .registers) (x .memory) (x .track)
 
 -- what one operation gives, and the state that it was given
 abbrev pub after : Call → After
@@ -34,7 +41,7 @@ pub record Leaves (x : After) (r : Registers) (m t : List ℕ) : Type 0 where
 -- Every call ends with the result that the rules name, whatever it is handed.
 pub record Total : Type 0 where
   -- an operation is refused with a number exactly when the number's condition holds and none before it does
-  pub exactly : (x : Call) (r : ℕ) → (shown (after x .answer) ≡ refused r) ↔ Given r (conditions x)
+  pub exactly : (x : Call) (r : ℕ) → (shown (after x .answer) ≡ refused r) ↔ Given r (conditionsOf x)
   -- a refused operation returns the registers, and leaves memory and track, as given
   pub unchanged : (x : Call) (r : ℕ) → shown (after x .answer) ≡ refused r → Leaves (after x) (x .registers) (x .memory) (x .track)
   -- the same of start, which returns zero registers when refused
@@ -45,9 +52,9 @@ pub record Total : Type 0 where
 -- A call that is not refused is carried out by the rules.
 pub record Faithful : Type 0 where
   -- an operation gives the plain machine's answer, and leaves its memory and registers
-  pub plain : (x : Call) → ((r : ℕ) → Given r (conditions x) → ⊥) → visible (after x) ≡ carriedOut (x .operation) (before x)
+  pub plain : (x : Call) → ((r : ℕ) → Given r (conditionsOf x) → ⊥) → visible (after x) ≡ carriedOut (x .operation) (before x)
   -- it leaves in each word of the track what is remembered of its context and page
-  pub words : (x : Call) → ((r : ℕ) → Given r (conditions x) → ⊥) → (c p : ℕ) → c < contexts (x .track) → p < rowSize →
+  pub words : (x : Call) → ((r : ℕ) → Given r (conditionsOf x) → ⊥) → (c p : ℕ) → c < contexts (x .track) → p < rowSize →
       trackWord (after x .track) c p ≡ wordAfter (x .operation) (carriedOut (x .operation) (before x) .1) c p (trackWord (x .track) c p)
   pub trackLength : (x : Call) → length (after x .track) ≡ length (x .track)
   -- start gives the plain machine's first state, and a track that remembers what the tables map now in context 0
@@ -61,12 +68,12 @@ pub record OddWords : Type 0 where
   -- a word that is neither 0 nor the word of an entry counts as several
   pub counts : (w : ℕ) → (w ≡ 0 → ⊥) → ((e : Entry) → e .frame < 0x100000 → e .ap < 8 → w ≡ wordOf e → ⊥) → kept w ≡ several
   -- a word that counts as several stays as found under noting
-  pub stays : (x : Call) → ((r : ℕ) → Given r (conditions x) → ⊥) → (c p : ℕ) → c < contexts (x .track) → p < rowSize →
+  pub stays : (x : Call) → ((r : ℕ) → Given r (conditionsOf x) → ⊥) → (c p : ℕ) → c < contexts (x .track) → p < rowSize →
       kept (trackWord (x .track) c p) ≡ several → flushes (x .operation .kind) (x .operation) c p ≡ false →
       trackWord (after x .track) c p ≡ trackWord (x .track) c p
   -- its page is stale, whatever the tables say
   pub isStale : (t : List ℕ) (c p : ℕ) (y : Translation) → kept (trackWord t c p) ≡ several → stale t c p y ≡ true
   -- a flush that names it empties it, and noting follows as for any empty set
-  pub goes : (x : Call) → ((r : ℕ) → Given r (conditions x) → ⊥) → (c p : ℕ) → c < contexts (x .track) → p < rowSize →
+  pub goes : (x : Call) → ((r : ℕ) → Given r (conditionsOf x) → ⊥) → (c p : ℕ) → c < contexts (x .track) → p < rowSize →
       flushes (x .operation .kind) (x .operation) c p ≡ true →
       trackWord (after x .track) c p ≡ notedIn (carriedOut (x .operation) (before x) .1) c p 0

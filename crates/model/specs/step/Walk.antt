@@ -27,12 +27,23 @@ smallEntry w = record { frame = w / 4096 % 1048576; ap = pageAp w }
 abbrev pub descriptorAt : List ℕ → ℕ → Loaded
 descriptorAt m at = loadAt Four m at
 
+-- the low two bits of a word, and the bit that would make a section a supersection
+abbrev pub kindOf : ℕ → ℕ
+kindOf w = w % 4
+
+abbrev pub superBit : ℕ → ℕ
+superBit w = w / 262144 % 2
+
+-- the address of the table that a level-one word points to
+abbrev pub tableOf : ℕ → ℕ
+tableOf w = w / 1024 % 4194304 * 1024
+
 -- what a level-one word says of a page
 unfoldable pub firstOf : ℕ → ℕ → FirstLevel
 firstOf w page =
-    cond (eqb (w % 4) 1) (Table (w / 1024 % 4194304 * 1024))
-    (cond (eqb (w % 4) 2)
-    (cond (eqb (w / 262144 % 2) 0) (Section (sectionEntry w page)) (Failing FirstUnmapped))
+    cond (eqb (kindOf w) 1) (Table (tableOf w))
+    (cond (eqb (kindOf w) 2)
+    (cond (eqb (superBit w) 0) (Section (sectionEntry w page)) (Failing FirstUnmapped))
     (Failing FirstUnmapped))
 
 abbrev pub firstFrom : Loaded → ℕ → FirstLevel
@@ -45,8 +56,8 @@ firstAt m root page = firstFrom (descriptorAt m (root + 4 * (page / 256))) page
 -- what a level-two word says of a page
 unfoldable pub secondOf : ℕ → ℕ → Outcome
 secondOf w page =
-    cond (eqb (w % 4) 0) (Failed SecondUnmapped)
-    (cond (eqb (w % 4) 1) (Mapped (largeEntry w page)) (Mapped (smallEntry w)))
+    cond (eqb (kindOf w) 0) (Failed SecondUnmapped)
+    (cond (eqb (kindOf w) 1) (Mapped (largeEntry w page)) (Mapped (smallEntry w)))
 
 abbrev pub secondFrom : Loaded → ℕ → Outcome
 secondFrom (Value w) page = secondOf w page

@@ -1,0 +1,345 @@
+-- The rules in their own words and order: reading a map, the operations and the plain machine, the chip with its TLB, what a
+-- TLB may remember, and when an operation is turned back.
+use Prim.Native.Nat.{ℕ, zero, suc, _+_, _*_, _-_, _/_, _%_, _^_}
+use mathlib.Core.Path.{_≡_}
+use mathlib.Core.Logic.{_⊎_}
+use mathlib.Core.Bool.{Bool, true, false, cond, not, _&&_, _||_}
+use mathlib.Core.List.{List, [], _∷_, map, foldl}
+use mathlib.Core.Option.{Option, none, some}
+use lib.Dec.{eqb, leb, ltb}
+use lib.ListN.{length, getD, set}
+use Rattle.model.specs.Limits.{pageSize, sectionSize, addressLimit, rowSize, rootAlignment, memoryUnit, memoryMost, contextsMost}
+use Rattle.model.specs.Numbers.{Result, ok, fault, kindNumber}
+use Rattle.model.specs.Types.{Registers, Operation, Kind, Read, Write, Root, Asid, Mode, All, Addr, Ctx, AddrCtx, Entry}
+
+-- ── Reading a map ──
+-- whether n bytes from `at` lie wholly in memory
+unfoldable pub inMemory : List ℕ → ℕ → ℕ → Bool
+inMemory m at n = leb (at + n) (length m)
+
+-- the number that n bytes from `at` make, low byte first
+unfoldable pub value : List ℕ → ℕ → ℕ → ℕ
+value m at zero = 0
+value m at (suc n) = getD m at 0 + 256 * value m (suc at) n
+
+-- bits high..low of a word
+unfoldable pub bits : ℕ → ℕ → ℕ → ℕ
+bits high low w = w / 2 ^ low % 2 ^ (suc high - low)
+
+-- What a walk gives: an entry, or the number of the fault that ends it.
+pub data Translation : Type 0 where
+  found : Entry → Translation
+  failed : ℕ → Translation
+
+-- what f says of the word at `at`, or this fault where the word is not wholly in memory
+unfoldable pub descriptor : List ℕ → ℕ → ℕ → (ℕ → Translation) → Translation
+descriptor m at n f = cond (inMemory m at 4) (f (value m at 4)) (failed n)
+
+-- Section: base bits 31..20, AP[2] bit 15, AP[1:0] bits 11..10; the missing frame bits come from the address.
+unfoldable pub section : ℕ → ℕ → Entry
+section a w = record { frame = bits 31 20 w * 256 + a / pageSize % 256; ap = bits 15 15 w * 4 + bits 11 10 w }
+
+-- Large page: base bits 31..16. Small page: base bits 31..12. For both, AP[2] is bit 9 and AP[1:0] bits 5..4.
+unfoldable pub largePage : ℕ → ℕ → Entry
+largePage a w = record { frame = bits 31 16 w * 16 + a / pageSize % 16; ap = bits 9 9 w * 4 + bits 5 4 w }
+
+unfoldable pub smallPage : ℕ → Entry
+smallPage w = record { frame = bits 31 12 w; ap = bits 9 9 w * 4 + bits 5 4 w }
+
+-- Level two. Low two bits 0: no mapping. 1: large page. 2 or 3: small page.
+unfoldable pub pageWord : ℕ → ℕ → Translation
+pageWord a w = cond (eqb (bits 1 0 w) 0) (failed 3) (cond (eqb (bits 1 0 w) 1) (found (largePage a w)) (found (smallPage w)))
+
+-- Level one. Low two bits 0 or 3: no mapping. 1: table at bits 31..10, and the level-two word at table base + 4 × (address /
+-- 4,096 % 256). 2 with bit 18 clear: section; set: no mapping.
+unfoldable pub tableWord : List ℕ → ℕ → ℕ → Translation
+tableWord m a w =
+    cond (eqb (bits 1 0 w) 1) (descriptor m (bits 31 10 w * 1024 + 4 * (a / pageSize % 256)) 6 (pageWord a))
+    (cond (eqb (bits 1 0 w) 2 && eqb (bits 18 18 w) 0) (found (section a w)) (failed 2))
+
+-- the walk of an address, in memory m from this root
+unfoldable pub walk : List ℕ → ℕ → ℕ → Translation
+walk m root a = descriptor m (root + 4 * (a / sectionSize)) 5 (tableWord m a)
+
+-- The physical address is frame × 4,096 + address % 4,096.
+unfoldable pub physical : Entry → ℕ → ℕ
+physical e a = e .frame * pageSize + a % pageSize
+
+pub data Right : Type 0 where
+  nothing reading writing : Right
+
+-- AP from 0 to 7: kernel / user. `writing` is read-write.
+abbrev pub rights : List (Right × Right)
+rights =
+    (nothing, nothing) ∷ (writing, nothing) ∷ (writing, reading) ∷ (writing, writing)
+    ∷ (nothing, nothing) ∷ (reading, nothing) ∷ (reading, reading) ∷ (reading, reading) ∷ []
+
+-- the right that an AP gives in a mode, 0 kernel or 1 user
+unfoldable pub rightOf : ℕ → ℕ → Right
+rightOf ap mode = cond (eqb mode 0) (getD rights ap (nothing, nothing) .0) (getD rights ap (nothing, nothing) .1)
+
+-- whether a right allows a read, or a write where `writes` holds
+unfoldable pub allows : Right → Bool → Bool
+allows nothing writes = false
+allows reading writes = cond writes false true
+allows writing writes = true
+
+-- ── The operations, and the plain machine: no TLB and no track ──
+-- The plain machine holds memory and the registers.
+pub record State : Type 0 where
+  pub memory : List ℕ
+  pub registers : Registers
+
+-- at first: the image, the given root, context 0, kernel mode
+unfoldable pub fresh : List ℕ → ℕ → State
+fresh image root = record { memory = image; registers = record { root = root; context = 0; mode = 0 } }
+
+-- memory with the low n bytes of v written from `at`, low byte first
+unfoldable pub stored : List ℕ → ℕ → ℕ → ℕ → List ℕ
+stored m at zero v = m
+stored m at (suc n) v = stored (set m at (v % 256)) (suc at) n (v / 256)
+
+unfoldable pub aligned : ℕ → ℕ → Bool
+aligned a size = eqb (a % size) 0
+
+-- The bytes are read, or written where `writes` holds.
+unfoldable pub touched : Bool → ℕ → ℕ → ℕ → State → Result × State
+touched writes at size v s =
+    cond writes (ok 0, record { memory = stored (s .memory) at size v; registers = s .registers }) (ok (value (s .memory) at size), s)
+
+-- An address with its translation: a fault of the walk; fault 4, permission; fault 7, bytes not in memory; the bytes.
+unfoldable pub translated : Bool → ℕ → ℕ → ℕ → State → Translation → Result × State
+translated writes a size v s (failed n) = (fault n, s)
+translated writes a size v s (found e) =
+    cond (allows (rightOf (e .ap) (s .registers .mode)) writes)
+    (cond (inMemory (s .memory) (physical e a) size) (touched writes (physical e a) size v s) (fault 7, s))
+    (fault 4, s)
+
+-- A read or write: fault 1, address not a multiple of the size; else the address is translated.
+unfoldable pub access : Bool → Operation → State → (ℕ → Translation) → Result × State
+access writes o s f = cond (aligned (o .a) (o .b)) (translated writes (o .a) (o .b) (o .c) s (f (o .a))) (fault 1, s)
+
+unfoldable pub setRegisters : State → ℕ → ℕ → ℕ → Result × State
+setRegisters s root context mode = (ok 0, record { memory = s .memory; registers = record { root = root; context = context; mode = mode } })
+
+-- An operation carried out, where f translates addresses. A flush changes neither memory nor registers.
+unfoldable pub effect : Kind → Operation → State → (ℕ → Translation) → Result × State
+effect Read o s f = access false o s f
+effect Write o s f = access true o s f
+effect Root o s f = setRegisters s (o .a) (s .registers .context) (s .registers .mode)
+effect Asid o s f = setRegisters s (s .registers .root) (o .a) (s .registers .mode)
+effect Mode o s f = setRegisters s (s .registers .root) (s .registers .context) (o .a)
+effect All o s f = (ok 0, s)
+effect Addr o s f = (ok 0, s)
+effect Ctx o s f = (ok 0, s)
+effect AddrCtx o s f = (ok 0, s)
+
+-- the present outcome of an address: what the walk of memory gives now
+unfoldable pub outcome : State → ℕ → Translation
+outcome s a = walk (s .memory) (s .registers .root) a
+
+-- The plain machine translates by its tables.
+unfoldable pub carriedOut : Operation → State → Result × State
+carriedOut o s = effect (o .kind) o s (outcome s)
+
+-- One operation, told whether it was refused. A refused operation changes nothing and gives no answer.
+unfoldable pub plainStep : Operation → Bool → State → Option Result × State
+plainStep o isRefused s = cond isRefused (none, s) (some (carriedOut o s .0), carriedOut o s .1)
+
+-- Whether an operation is a flush that names this context and page. The low 12 bits of a flush address don't matter.
+unfoldable pub flushes : Kind → Operation → ℕ → ℕ → Bool
+flushes Read o context page = false
+flushes Write o context page = false
+flushes Root o context page = false
+flushes Asid o context page = false
+flushes Mode o context page = false
+flushes All o context page = true
+flushes Addr o context page = eqb page (o .a / pageSize)
+flushes Ctx o context page = eqb context (o .a)
+flushes AddrCtx o context page = eqb page (o .a / pageSize) && eqb context (o .b)
+
+-- ── The chip: the plain machine with a TLB of n places ──
+-- Each place may hold an entry under a context and a page.
+pub record Held : Type 0 where
+  pub context : ℕ
+  pub page : ℕ
+  pub entry : Entry
+
+abbrev pub Places : Type 0
+Places = List (Option Held)
+
+-- the entry held for a page in a context
+unfoldable pub heldFor : ℕ → ℕ → Places → Option Entry
+heldFor context page [] = none
+heldFor context page (none ∷ hs) = heldFor context page hs
+heldFor context page (some h ∷ hs) = cond (eqb (h .context) context && eqb (h .page) page) (some (h .entry)) (heldFor context page hs)
+
+-- What the chip does by itself: drop what place i holds, or load a page into place i.
+pub data Move : Type 0 where
+  drop : ℕ → Move
+  load : ℕ → ℕ → Move
+
+unfoldable pub isFree : {A : Type 0} → Option A → Bool
+isFree none = true
+isFree (some x) = false
+
+unfoldable pub putIn : ℕ → ℕ → ℕ → Translation → Places → Places
+putIn i context page (found e) ps = set ps i (some (record { context = context; page = page; entry = e }))
+putIn i context page (failed n) ps = ps
+
+-- A move; one that is not allowed does nothing. A load needs place i free, a page of the window (0 to 1,023) that the tables
+-- map in the current context, and none held for it there.
+unfoldable pub move : State → Places → Move → Places
+move s ps (drop i) = set ps i none
+move s ps (load i page) =
+    cond (isFree (getD ps i none) && ltb page rowSize && isFree (heldFor (s .registers .context) page ps))
+    (putIn i (s .registers .context) page (outcome s (page * pageSize)) ps)
+    ps
+
+unfoldable pub moves : State → Places → List Move → Places
+moves s ps xs = foldl (move s) ps xs
+
+-- An aligned access takes the entry held for its page and current context in place of the walk.
+unfoldable pub orWalk : Option Entry → Translation → Translation
+orWalk none t = t
+orWalk (some e) t = found e
+
+unfoldable pub chipOutcome : State → Places → ℕ → Translation
+chipOutcome s ps a = orWalk (heldFor (s .registers .context) (a / pageSize) ps) (outcome s a)
+
+-- A flush drops what is held under the contexts and pages it names.
+unfoldable pub flushPlace : Operation → Option Held → Option Held
+flushPlace o none = none
+flushPlace o (some h) = cond (flushes (o .kind) o (h .context) (h .page)) none (some h)
+
+-- One operation, told whether it was refused: its answer, the state, and what is held, before the moves that follow it.
+unfoldable pub chipStep : Operation → Bool → State → Places → Option Result × State × Places
+chipStep o true s ps = (none, s, ps)
+chipStep o false s ps =
+    (some (effect (o .kind) o s (chipOutcome s ps) .0), effect (o .kind) o s (chipOutcome s ps) .1, map (flushPlace o) ps)
+
+-- ── What a TLB may remember ──
+-- Of a set of entries a word keeps: it is empty, it has one entry, or it has two or more different ones.
+pub data Kept : Type 0 where
+  empty : Kept
+  one : Entry → Kept
+  several : Kept
+
+-- The word of one entry: frame in bits 31..12, AP in bits 11..9, bit 1 set, other bits clear.
+unfoldable pub wordOf : Entry → ℕ
+wordOf e = e .frame * 4096 + e .ap * 512 + 2
+
+unfoldable pub entryOf : ℕ → Entry
+entryOf w = record { frame = bits 31 12 w; ap = bits 11 9 w }
+
+-- A word is 0 for an empty set and the entry's word for one entry. 1, and any other word, counts as several.
+unfoldable pub kept : ℕ → Kept
+kept w = cond (eqb w 0) empty (cond (eqb w (wordOf (entryOf w))) (one (entryOf w)) several)
+
+unfoldable pub same : Entry → Entry → Bool
+same x y = eqb (x .frame) (y .frame) && eqb (x .ap) (y .ap)
+
+-- A word after an entry was added to its set. A word that counts as several stays as found.
+unfoldable pub addTo : Kept → Entry → ℕ → ℕ
+addTo empty e w = wordOf e
+addTo (one x) e w = cond (same x e) w 1
+addTo several e w = w
+
+-- A word after its page was noted: a page without mapping adds nothing.
+unfoldable pub noted : Translation → ℕ → ℕ
+noted (found e) w = addTo (kept w) e w
+noted (failed n) w = w
+
+-- A set holds an entry different from the present outcome; no mapping and a failed walk differ from every entry.
+unfoldable pub differs : Kept → Translation → Bool
+differs empty x = false
+differs (one e) (found x) = not (same e x)
+differs (one e) (failed n) = true
+differs several x = true
+
+-- For all pages, one that the tables map in the context now current has its entry added.
+unfoldable pub notedIn : State → ℕ → ℕ → ℕ → ℕ
+notedIn s context page w = cond (eqb context (s .registers .context)) (noted (outcome s (page * pageSize)) w) w
+
+-- The word of a context and page after an operation that left the state s: a flush empties the sets it names, then noting follows.
+unfoldable pub wordAfter : Operation → State → ℕ → ℕ → ℕ → ℕ
+wordAfter o s context page w = notedIn s context page (cond (flushes (o .kind) o context page) 0 w)
+
+-- the word of a context and a page in the track
+unfoldable pub trackWord : List ℕ → ℕ → ℕ → ℕ
+trackWord t context page = getD t (rowSize * context + page) 0
+
+-- A page is stale in a context if its set there holds an entry different from its present outcome.
+unfoldable pub stale : List ℕ → ℕ → ℕ → Translation → Bool
+stale t context page x = differs (kept (trackWord t context page)) x
+
+-- ── Turned back ──
+-- whether an operation's kind is one of these
+unfoldable pub among : Kind → List Kind → Bool
+among k [] = false
+among k (x ∷ xs) = eqb (kindNumber k) (kindNumber x) || among k xs
+
+-- the number of contexts, told by the track's length alone
+unfoldable pub contexts : List ℕ → ℕ
+contexts t = length t / rowSize
+
+-- 7 size: 1, 2 or 4
+unfoldable pub refuses7 : Operation → Bool
+refuses7 o = among (o .kind) (Read ∷ Write ∷ []) && not (eqb (o .b) 1 || eqb (o .b) 2 || eqb (o .b) 4)
+
+-- 8 address 0x400000 or more, flushes included
+unfoldable pub refuses8 : Operation → Bool
+refuses8 o = among (o .kind) (Read ∷ Write ∷ Addr ∷ AddrCtx ∷ []) && leb addressLimit (o .a)
+
+-- 9 value too large for the size
+unfoldable pub refuses9 : Operation → Bool
+refuses9 o =
+    among (o .kind) (Write ∷ [])
+    && (eqb (o .b) 1 && leb 0x100 (o .c) || eqb (o .b) 2 && leb 0x10000 (o .c) || eqb (o .b) 4 && leb 0x100000000 (o .c))
+
+-- 10 root not a multiple of 0x80
+unfoldable pub refuses10 : Operation → Bool
+refuses10 o = among (o .kind) (Root ∷ []) && not (eqb (o .a % rootAlignment) 0)
+
+-- 11 context k or more
+unfoldable pub refuses11 : Operation → ℕ → Bool
+refuses11 o k = among (o .kind) (Asid ∷ Ctx ∷ []) && leb k (o .a) || among (o .kind) (AddrCtx ∷ []) && leb k (o .b)
+
+-- 12 mode above 1
+unfoldable pub refuses12 : Operation → Bool
+refuses12 o = among (o .kind) (Mode ∷ []) && leb 2 (o .a)
+
+-- 13 lent lengths: memory a multiple of 4,096 from 4,096 to 16,777,216; track 1,024 × k, k from 1 to 256
+unfoldable pub refuses13 : List ℕ → List ℕ → Bool
+refuses13 m t =
+    not (eqb (length m % memoryUnit) 0 && leb memoryUnit (length m) && leb (length m) memoryMost)
+    || not (eqb (length t) (rowSize * contexts t) && leb 1 (contexts t) && leb (contexts t) contextsMost)
+
+-- 14 registers out of range: root a multiple of 0x80, context 0 to k − 1, mode 0 or 1
+unfoldable pub refuses14 : Registers → ℕ → Bool
+refuses14 r k = not (eqb (r .root % rootAlignment) 0) || leb k (r .context) || leb 2 (r .mode)
+
+-- 15 user mode: all operations but read, write and mode need kernel mode
+unfoldable pub refuses15 : Operation → Registers → Bool
+refuses15 o r = not (among (o .kind) (Read ∷ Write ∷ Mode ∷ [])) && not (eqb (r .mode) 0)
+
+-- 16 stale: an aligned access to a page that is stale in the current context
+unfoldable pub refuses16 : Operation → Registers → List ℕ → List ℕ → Bool
+refuses16 o r m t =
+    among (o .kind) (Read ∷ Write ∷ []) && aligned (o .a) (o .b) && stale t (r .context) (o .a / pageSize) (walk m (r .root) (o .a))
+
+-- An operation is tested for 13, 14, then 7 to 12, 15, then 16.
+unfoldable pub conditions : Operation → Registers → List ℕ → List ℕ → List (ℕ × Bool)
+conditions o r m t =
+    (13, refuses13 m t) ∷ (14, refuses14 r (contexts t))
+    ∷ (7, refuses7 o) ∷ (8, refuses8 o) ∷ (9, refuses9 o) ∷ (10, refuses10 o) ∷ (11, refuses11 o (contexts t)) ∷ (12, refuses12 o)
+    ∷ (15, refuses15 o r) ∷ (16, refuses16 o r m t) ∷ []
+
+-- Start can give 13 and 10, 13 first.
+unfoldable pub startConditions : List ℕ → List ℕ → ℕ → List (ℕ × Bool)
+startConditions m t root = (13, refuses13 m t) ∷ (10, not (eqb (root % rootAlignment) 0)) ∷ []
+
+-- A number is given only when its condition holds and none before it does.
+unfoldable pub Given : ℕ → List (ℕ × Bool) → Type 0
+Given r [] = ⊥
+Given r (x ∷ xs) = ((x .0 ≡ r) × (x .1 ≡ true)) ⊎ ((x .1 ≡ false) × Given r xs)
