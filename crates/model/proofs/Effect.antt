@@ -54,7 +54,7 @@ unfolding taken translated physical
 granted-same (Failed f) writes size a v r m = refl
 granted-same (Mapped e) writes size a v r m =
     push (taken writes size v (state r m)) (permitted (e .ap) (r .mode) writes)
-      (cond (within size m (physicalOf e a)) (Physical (physicalOf e a)) (Fails AccessOutside)) (Fails Permission)
+    (cond (within size m (physicalOf e a)) (Physical (physicalOf e a)) (Fails AccessOutside)) (Fails Permission)
     ∙ ap (λ y. cond (permitted (e .ap) (r .mode) writes) y (fault 4, state r m))
     (push (taken writes size v (state r m)) (within size m (physicalOf e a)) (Physical (physicalOf e a)) (Fails AccessOutside)
     ∙ ap (λ b. cond b (touched writes (physicalOf e a) (bytesOf size) v (state r m)) (fault 7, state r m)) (within-same size m (physicalOf e a)))

@@ -10,3 +10,6 @@ pub mod Track
 pub mod Effect
 pub mod Calls
 pub mod OddWords
+pub mod CaseTools
+pub mod PaperCases
+pub mod WiderCases
