@@ -12,6 +12,7 @@ use borrow.Author.Tests.{ltb-true, leb-true}
 use Rattle.model.specs.Limits.{rowSize, contextsMost}
 use Rattle.model.specs.Numbers.{Result, ok, fault, refused, shown, refusalNumber}
 use Rattle.model.specs.reference.Rules.{Translation, found, failed, inMemory, physical, rightOf, allows, State, fresh, aligned, touched, translated, access, setRegisters, effect, outcome, carriedOut, flushes, trackWord, notedIn, wordAfter, contexts, conditions, startConditions, Given, refuses16}
+use Rattle.model.specs.reference.Runs.{isRefused}
 use Rattle.model.specs.step.Track.{noteTrack, flushAll}
 use Rattle.model.specs.step.Checks.{checks, startChecks, firstFailing, contextFits, registersFit, sizeFits, rootFits, lengthsFit, memoryFits, trackFits}
 use Rattle.model.specs.step.Machine.{After, sizeOf, accessAt, readFrom, writeTo, readStep, writeStep, checked, startedBy, operate, stepped, started, startRegisters, zeroRegisters, turnedBack}
@@ -28,7 +29,7 @@ unfoldable pub firstHolding : List (ℕ × Bool) → Option ℕ
 firstHolding [] = none
 firstHolding (x ∷ xs) = cond (x .1) (some (x .0)) (firstHolding xs)
 
-none-some : {A : Type 0} (x : A) → _≡_ {A = Option A} none (some x) → ⊥
+pub none-some : {A : Type 0} (x : A) → _≡_ {A = Option A} none (some x) → ⊥
 none-some x p = let z : _≡_ {A = Bool} true false = cc in true≢false z
 
 pub given-first : (xs : List (ℕ × Bool)) (r : ℕ) → Given r xs → firstHolding xs ≡ some r
@@ -48,11 +49,11 @@ first-given (x ∷ xs) r p = go (x .1) refl p (first-given xs r)
     go false e q rest = inr (e, rest q)
 
 -- a check that refuses, or what comes after the checks
-unfoldable orElse : Check → Option ℕ → Option ℕ
+unfoldable pub orElse : Check → Option ℕ → Option ℕ
 orElse (Refuse n) y = some (refusalNumber n)
 orElse Pass y = y
 
-first-failing : (xs : List (Bool × Refusal)) (ys : List (ℕ × Bool)) → firstHolding (asConditions xs ++ ys) ≡ orElse (firstFailing xs) (firstHolding ys)
+pub first-failing : (xs : List (Bool × Refusal)) (ys : List (ℕ × Bool)) → firstHolding (asConditions xs ++ ys) ≡ orElse (firstFailing xs) (firstHolding ys)
 unfolding firstHolding asConditions firstFailing orElse
 first-failing [] ys = refl
 first-failing (x ∷ xs) ys = go (x .0) (first-failing xs ys)
@@ -63,11 +64,11 @@ first-failing (x ∷ xs) ys = go (x .0) (first-failing xs ys)
     go false rest = refl
 
 -- checks that pass hold
-unfoldable Hold : List (Bool × Refusal) → Type 0
+unfoldable pub Hold : List (Bool × Refusal) → Type 0
 Hold [] = Unit {0}
 Hold (x ∷ xs) = (x .0 ≡ true) × Hold xs
 
-passed : (xs : List (Bool × Refusal)) → firstFailing xs ≡ Pass → Hold xs
+pub passed : (xs : List (Bool × Refusal)) → firstFailing xs ≡ Pass → Hold xs
 unfolding Hold firstFailing
 passed [] p = tt
 passed (x ∷ xs) p = go (x .0) refl p (passed xs)
@@ -84,14 +85,14 @@ answerBy (some r) o s = (refused r, s)
 answerBy none o s = carriedOut o s
 
 -- the checks of a call
-abbrev checksOf : Call → List (Bool × Refusal)
+abbrev pub checksOf : Call → List (Bool × Refusal)
 checksOf x = checks (x .operation) (x .registers) (length (x .memory)) (length (x .track))
 
 size-passed : (x : Call) → firstFailing (checksOf x) ≡ Pass → sizeFits (x .operation .kind) (x .operation .b) ≡ true
 unfolding Hold checks
 size-passed x p = passed (checksOf x) p .1 .1 .0
 
-conditions-by : (x : Call) → firstHolding (conditionsOf x) ≡ orElse (firstFailing (checksOf x)) (firstHolding (staleCondition x ∷ []))
+pub conditions-by : (x : Call) → firstHolding (conditionsOf x) ≡ orElse (firstFailing (checksOf x)) (firstHolding (staleCondition x ∷ []))
 conditions-by x = ap firstHolding (sym (checks-same x)) ∙ first-failing (checksOf x) (staleCondition x ∷ [])
 
 step-same : (x : Call) → visible (after x) ≡ answerBy (firstHolding (conditionsOf x)) (x .operation) (before x)
@@ -119,12 +120,7 @@ step-same x = go (firstFailing (checksOf x)) refl ∙ ap (λ y. answerBy y (x .o
 
 -- ── The plain machine refuses nothing ──
 
-unfoldable isRefused : Result → Bool
-isRefused (ok v) = false
-isRefused (fault n) = false
-isRefused (refused r) = true
-
-not-refused : (x : Result) (r : ℕ) → isRefused x ≡ false → x ≡ refused r → ⊥
+pub not-refused : (x : Result) (r : ℕ) → isRefused x ≡ false → x ≡ refused r → ⊥
 unfolding isRefused
 not-refused x r a p = true≢false (sym (ap isRefused p) ∙ a)
 
@@ -190,7 +186,7 @@ exactly x r = (to, from)
         ∙ (unfold answerBy in refl)
 
 -- no condition holds: none is the first
-none-holds : (xs : List (ℕ × Bool)) → ((r : ℕ) → Given r xs → ⊥) → firstHolding xs ≡ none
+pub none-holds : (xs : List (ℕ × Bool)) → ((r : ℕ) → Given r xs → ⊥) → firstHolding xs ≡ none
 none-holds xs h = go (firstHolding xs) refl
   where
     go : (y : Option ℕ) → firstHolding xs ≡ y → y ≡ none
@@ -204,7 +200,7 @@ plain x h =
 -- ── What is left in the track ──
 
 -- turned back with all as given, or carried out with what was flushed noted
-data Ended (y : After) (r : Registers) (m t flushed : List ℕ) : Type 0 where
+pub data Ended (y : After) (r : Registers) (m t flushed : List ℕ) : Type 0 where
   back : (n : Refusal) → y ≡ turnedBack n r m t → Ended y r m t flushed
   done : isRefused (shown (y .answer)) ≡ false → y .track ≡ noteTrack (y .memory) (y .registers .root) (y .registers .context) flushed → Ended y r m t flushed
 
@@ -281,10 +277,10 @@ context-left Ctx o r m t h f = h
 context-left AddrCtx o r m t h f = h
 
 -- what the checks passed say of contexts
-record Passed (x : Call) : Type 0 where
-  given : x .registers .context < contexts (x .track)
-  named : contextFits (x .operation .kind) (x .operation .a) (x .operation .b) (contexts (x .track)) ≡ true
-  left : after x .registers .context < contexts (x .track)
+pub record Passed (x : Call) : Type 0 where
+  pub given : x .registers .context < contexts (x .track)
+  pub named : contextFits (x .operation .kind) (x .operation .a) (x .operation .b) (contexts (x .track)) ≡ true
+  pub left : after x .registers .context < contexts (x .track)
 
 context-in-range : (r : Registers) (n : ℕ) → registersFit r n ≡ true → r .context < n
 unfolding registersFit
@@ -295,7 +291,7 @@ context-in-range r n p = go (rootFits (r .root)) (ltb (r .context) n) refl p
     go true false e q = absurd (true≢false (sym q))
     go false y e q = absurd (true≢false (sym q))
 
-passed-call : (x : Call) → firstFailing (checksOf x) ≡ Pass → Passed x
+pub passed-call : (x : Call) → firstFailing (checksOf x) ≡ Pass → Passed x
 unfolding Hold checks contexts stepped
 passed-call x p =
     let all = passed (checksOf x) p in
@@ -315,7 +311,7 @@ passes xs ys p = go (firstFailing xs) (sym (first-failing xs ys) ∙ p)
     go Pass e = refl
     go (Refuse n) e = absurd (none-some (refusalNumber n) (sym (unfold orElse in e)))
 
-call-passes : (x : Call) → ((r : ℕ) → Given r (conditionsOf x) → ⊥) → Passed x
+pub call-passes : (x : Call) → ((r : ℕ) → Given r (conditionsOf x) → ⊥) → Passed x
 call-passes x h = passed-call x (passes (checksOf x) (staleCondition x ∷ []) (ap firstHolding (checks-same x) ∙ none-holds (conditionsOf x) h))
 
 pub words : (x : Call) → ((r : ℕ) → Given r (conditionsOf x) → ⊥) → (c p : ℕ) → c < contexts (x .track) → p < rowSize →
@@ -395,11 +391,11 @@ start-plain m t root h =
     start-same m t root ∙ ap (λ y. startedAs y m root) (none-holds (startConditions m t root) h) ∙ (unfold startedAs in refl)
 
 -- turned back with zero registers, or the emptied track noted
-data Begun (y : After) (m t : List ℕ) (root : ℕ) : Type 0 where
+pub data Begun (y : After) (m t : List ℕ) (root : ℕ) : Type 0 where
   back : (n : Refusal) → y ≡ turnedBack n zeroRegisters m t → Begun y m t root
   done : isRefused (shown (y .answer)) ≡ false → 0 < contexts t → y .track ≡ noteTrack m root 0 (flushAll t) → Begun y m t root
 
-has-context : (m t : List ℕ) → lengthsFit (length m) (length t) ≡ true → 0 < contexts t
+pub has-context : (m t : List ℕ) → lengthsFit (length m) (length t) ≡ true → 0 < contexts t
 unfolding lengthsFit trackFits contexts
 has-context m t p = go (memoryFits (length m)) (eqb (length t % rowSize) 0) (leb rowSize (length t)) refl p
   where
@@ -409,7 +405,7 @@ has-context m t p = go (memoryFits (length m)) (eqb (length t % rowSize) 0) (leb
     go true false z e q = absurd (true≢false (sym q))
     go false y z e q = absurd (true≢false (sym q))
 
-begun : (m t : List ℕ) (root : ℕ) → Begun (started m t root) m t root
+pub begun : (m t : List ℕ) (root : ℕ) → Begun (started m t root) m t root
 unfolding started
 begun m t root = go (firstFailing (startChecksOf m t root)) refl
   where

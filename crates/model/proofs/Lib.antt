@@ -10,6 +10,11 @@ pub mod Track
 pub mod Effect
 pub mod Calls
 pub mod OddWords
+pub mod Instance
+pub mod Kept
+pub mod Chips
+pub mod ThirdDemand
+pub mod Pinned
 pub mod CaseTools
 pub mod PaperCases
 pub mod WiderCases

@@ -5,3 +5,4 @@ pub mod Numbers
 pub mod reference
 pub mod step
 pub mod Demands
+pub mod Invisible

@@ -1,2 +1,3 @@
 -- The reference: what a reader has to believe of the machine.
 pub mod Rules
+pub mod Runs

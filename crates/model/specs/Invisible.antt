@@ -1,0 +1,118 @@
+-- The third demand: the TLB is invisible.
+use Prim.Native.Nat.{ℕ, suc, _*_, _/_, _<_}
+use mathlib.Core.Path.{_≡_}
+use mathlib.Core.Logic.{_↔_}
+use mathlib.Core.Bool.{Bool, true, false, _&&_, _||_}
+use mathlib.Core.List.{List, [], _∷_, map}
+use mathlib.Core.Option.{Option, none, some}
+use lib.Dec.{eqb}
+use lib.ListN.{length, getD}
+use Rattle.model.specs.Limits.{pageSize, rowSize}
+use Rattle.model.specs.Numbers.{Result, fault, refused, shown}
+use Rattle.model.specs.reference.Rules.{Translation, found, failed, State, fresh, effect, outcome, aligned, among, Held, Places, heldFor, Move, drop, load, move, chipOutcome}
+use Rattle.model.specs.reference.Runs.{last, next, checkerRun, isRefused, seen, told, plainRun, Moment, chipStart, chipRun, chipSeen, Holds}
+use Rattle.model.specs.step.Machine.{After, started}
+use Rattle.model.specs.Types.{Operation, Read, Write, Entry}
+
+-- A start with any image, any track and any root, and a list of operations of any kind with any fields.
+pub record Session : Type 0 where
+  pub image : List ℕ
+  pub track : List ℕ
+  pub root : ℕ
+  pub operations : List Operation
+
+-- the checker's start, and that it is accepted
+abbrev pub begun : Session → After
+begun x = started (x .image) (x .track) (x .root)
+
+abbrev pub Accepted : Session → Type 0
+Accepted x = isRefused (shown (begun x .answer)) ≡ false
+
+-- the checker's run, and what is told of it
+abbrev pub checked : Session → List After
+checked x = checkerRun (begun x) (x .operations)
+
+abbrev pub toldOf : Session → List (Operation × Bool)
+toldOf x = told (begun x) (x .operations)
+
+-- the plain machine's run, and the chip's with n places and these moves: they are given image and root, and what is told
+abbrev pub plainRunOf : Session → List (Option Result × State)
+plainRunOf x = plainRun (fresh (x .image) (x .root)) (toldOf x)
+
+abbrev pub chipStartOf : Session → ℕ → List Move → Moment
+chipStartOf x n first = chipStart n (fresh (x .image) (x .root)) first
+
+abbrev pub chipRunOf : Session → ℕ → List Move → (ℕ → List Move) → List Moment
+chipRunOf x n first script = chipRun (chipStartOf x n first) (toldOf x) script
+
+-- The first half: whatever a TLB of any size from one place up does, the chip with it, the machine with none and the checker give each
+-- operation not refused the same answer, and agree after every operation in all registers and memory bytes.
+pub record Same : Type 0 where
+  pub begins : (x : Session) → Accepted x → (record { memory = begun x .memory; registers = begun x .registers }) ≡ fresh (x .image) (x .root)
+  pub plain : (x : Session) → Accepted x → plainRunOf x ≡ map seen (checked x)
+  pub chip : (x : Session) → Accepted x → (n : ℕ) (first : List Move) (script : ℕ → List Move) →
+      map chipSeen (chipRunOf x (suc n) first script) ≡ map seen (checked x)
+
+-- what the checker and the plain machine have come to at the end of the list
+abbrev pub atEnd : Session → After
+atEnd x = last (begun x) (checked x)
+
+abbrev pub plainEnd : Session → State
+plainEnd x = last (none, fresh (x .image) (x .root)) (plainRunOf x) .1
+
+-- an access whose size is 1, 2 or 4 and divides its address
+unfoldable pub alignedAccess : Operation → Bool
+alignedAccess o =
+    among (o .kind) (Read ∷ Write ∷ []) && (eqb (o .b) 1 || eqb (o .b) 2 || eqb (o .b) 4) && aligned (o .a) (o .b)
+
+-- some TLB could then hold, for the page of o in the current context, an entry other than the present outcome
+pub record CouldDiffer (x : Session) (o : Operation) : Type 0 where
+  pub places : ℕ
+  pub first : List Move
+  pub script : ℕ → List Move
+  pub entry : Entry
+  pub held : Holds (plainEnd x .registers .context) (o .a / pageSize) entry
+      (last (chipStartOf x (suc places) first) (chipRunOf x (suc places) first script) .held)
+  pub other : outcome (plainEnd x) (o .a) ≡ found entry → ⊥
+
+-- The second half: after such a list, an aligned access that no other number turns back is refused as stale exactly when some such
+-- TLB could then hold for its page and context an entry other than the tables' present outcome.
+pub record Exactly : Type 0 where
+  pub stale : (x : Session) → Accepted x → (o : Operation) → alignedAccess o ≡ true →
+      ((r : ℕ) → shown (next o (atEnd x) .answer) ≡ refused r → r ≡ 16) →
+      (shown (next o (atEnd x) .answer) ≡ refused 16) ↔ CouldDiffer x o
+
+pub record Invisible : Type 0 where
+  pub same : Same
+  pub exactly : Exactly
+
+-- What a chip of n places holds after any list of operations, told which were refused, and any moves.
+abbrev pub heldBy : ℕ → State → List (Operation × Bool) → List Move → (ℕ → List Move) → Places
+heldBy n s xs first script = last (chipStart n s first) (chipRun (chipStart n s first) xs script) .held
+
+-- The chip and the operations that the two halves speak of are those of the rules.
+pub record Pinned : Type 0 where
+  -- an entry held for the page of an address in the current context is what the address is translated by
+  pub heldUsed : (n : ℕ) (s : State) (xs : List (Operation × Bool)) (first : List Move) (script : ℕ → List Move) (now : State) (a : ℕ) (e : Entry) →
+      Holds (now .registers .context) (a / pageSize) e (heldBy n s xs first script) → chipOutcome now (heldBy n s xs first script) a ≡ found e
+  -- a page of the window that the tables map, for which nothing is held, can be loaded into a free place
+  pub canLoad : (s : State) (ps : Places) (i page : ℕ) (e : Entry) → i < length ps → getD ps i none ≡ none → page < rowSize →
+      outcome s (page * pageSize) ≡ found e → heldFor (s .registers .context) page ps ≡ none → Holds (s .registers .context) page e (move s ps (load i page))
+  -- a drop empties its place and no other
+  pub drops : (s : State) (ps : Places) (i : ℕ) → getD (move s ps (drop i)) i none ≡ none
+  pub dropsOnly : (s : State) (ps : Places) (i j : ℕ) → (j ≡ i → ⊥) → getD (move s ps (drop i)) j none ≡ getD ps j none
+  -- never two places for one page in one context, and never more places than n
+  pub once : (n : ℕ) (s : State) (xs : List (Operation × Bool)) (first : List Move) (script : ℕ → List Move) (i j : ℕ) (h k : Held) →
+      getD (heldBy n s xs first script) i none ≡ some h → getD (heldBy n s xs first script) j none ≡ some k →
+      h .context ≡ k .context → h .page ≡ k .page → i ≡ j
+  pub size : (n : ℕ) (s : State) (xs : List (Operation × Bool)) (first : List Move) (script : ℕ → List Move) → length (heldBy n s xs first script) ≡ n
+  -- an access uses the translation of its own address and no other, and of an address that translates alike in its whole page
+  pub ownPage : (o : Operation) (s : State) (f g : ℕ → Translation) → f (o .a) ≡ g (o .a) → effect (o .kind) o s f ≡ effect (o .kind) o s g
+  pub wholePage : (s : State) (ps : Places) (a b : ℕ) → a / pageSize ≡ b / pageSize → chipOutcome s ps a ≡ chipOutcome s ps b
+  -- a translation that is a fault is the answer
+  pub faultAnswers : (o : Operation) (s : State) (f : ℕ → Translation) (n : ℕ) → alignedAccess o ≡ true → f (o .a) ≡ failed n →
+      effect (o .kind) o s f ≡ (fault n, s)
+  -- the checker, the plain machine and every chip end in the state that the second half speaks of
+  pub checkerEnds : (x : Session) → Accepted x → (record { memory = atEnd x .memory; registers = atEnd x .registers }) ≡ plainEnd x
+  pub chipEnds : (x : Session) → Accepted x → (n : ℕ) (first : List Move) (script : ℕ → List Move) →
+      last (chipStartOf x (suc n) first) (chipRunOf x (suc n) first script) .state ≡ plainEnd x

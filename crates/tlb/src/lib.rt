@@ -1,0 +1,1 @@
+// A theory: this crate holds definitions and proofs, and no code.
