@@ -20,10 +20,10 @@ use Rattle.model.specs.Numbers.{Result, ok, fault, refused, shown}
 use Rattle.model.specs.reference.Rules.{Translation, found, failed, State, fresh, aligned, effect, outcome, carriedOut, plainStep, Held, Places, heldFor, Move, move, moves, orWalk, chipOutcome, flushPlace, chipStep, among}
 use Rattle.model.specs.reference.Runs.{last, next, checkerRun, isRefused, seen, told, plainRun, Moment, chipStart, chipNext, chipRun, chipSeen, Holds}
 use Rattle.model.specs.step.Machine.{After, stepped, started}
-use Rattle.model.specs.Invisible.{Session, begun, Accepted, checked, toldOf, plainRunOf, chipStartOf, chipRunOf, Same, atEnd, plainEnd, alignedAccess, CouldDiffer, Exactly, Invisible}
+use Rattle.model.specs.Invisible.{Session, begun, Accepted, checked, toldOf, plainRunOf, chipStartOf, chipRunOf, Same, atEnd, plainEnd, alignedAccess, CouldDiffer, Exactly, Invisible, checker}
 use Rattle.model.specs.Types.{Operation, Kind, Read, Write, Entry}
 use Rattle.model.proofs.Tests.{and-both}
-use Rattle.model.proofs.Instance.{asWalk, ofWalk, of-as, pageOf, walkOf, carryOf, tables, replyOf, stateOf, callOf, checker, tlbOf, outcome-page, carry-plain}
+use Rattle.model.proofs.Instance.{asWalk, ofWalk, of-as, pageOf, walkOf, carryOf, tables, replyOf, stateOf, callOf, checker as theory, tlbOf, outcome-page, carry-plain}
 use Rattle.model.proofs.Kept.{begins, carries, keeps}
 use Rattle.model.proofs.Chips.{held, HoldsIn, tlb-laws}
 
@@ -41,25 +41,25 @@ answer-same (ok v) = refl
 answer-same (fault n) = refl
 answer-same (refused r) = refl
 
-told-same : (x : After) (os : List Operation) → toldBy tables checker (stateOf x) (x .track) os ≡ told x os
+told-same : (x : After) (os : List Operation) → toldBy tables theory (stateOf x) (x .track) os ≡ told checker x os
 unfolding toldBy told
 told-same x [] = refl
-told-same x (o ∷ os) = λ i. (o, refused-same (shown (next o x .answer)) i) ∷ told-same (next o x) os i
+told-same x (o ∷ os) = λ i. (o, refused-same (shown (next checker o x .answer)) i) ∷ told-same (next checker o x) os i
 
-own-same : (x : After) (os : List Operation) → ownTrace tables checker (stateOf x) (x .track) os ≡ map seen (checkerRun x os)
+own-same : (x : After) (os : List Operation) → ownTrace tables theory (stateOf x) (x .track) os ≡ map seen (checkerRun checker x os)
 unfolding ownTrace checkerRun seen
 own-same x [] = refl
-own-same x (o ∷ os) = λ i. (answer-same (shown (next o x .answer)) i, stateOf (next o x)) ∷ own-same (next o x) os i
+own-same x (o ∷ os) = λ i. (answer-same (shown (next checker o x .answer)) i, stateOf (next checker o x)) ∷ own-same (next checker o x) os i
 
-end-state : (x : After) (os : List Operation) → endState tables checker (stateOf x) (x .track) os ≡ stateOf (last x (checkerRun x os))
+end-state : (x : After) (os : List Operation) → endState tables theory (stateOf x) (x .track) os ≡ stateOf (last x (checkerRun checker x os))
 unfolding endState checkerRun last
 end-state x [] = refl
-end-state x (o ∷ os) = end-state (next o x) os
+end-state x (o ∷ os) = end-state (next checker o x) os
 
-end-track : (x : After) (os : List Operation) → endTrack tables checker (stateOf x) (x .track) os ≡ last x (checkerRun x os) .track
+end-track : (x : After) (os : List Operation) → endTrack tables theory (stateOf x) (x .track) os ≡ last x (checkerRun checker x os) .track
 unfolding endTrack checkerRun last
 end-track x [] = refl
-end-track x (o ∷ os) = end-track (next o x) os
+end-track x (o ∷ os) = end-track (next checker o x) os
 
 -- ── The plain machine's run ──
 
@@ -139,27 +139,27 @@ start-held n s first = moves-same n s (replicate (suc n) none) first
 
 -- ── The first half ──
 
-pub same-begins : (x : Session) → Accepted x → stateOf (begun x) ≡ fresh (x .image) (x .root)
+pub same-begins : (x : Session) → Accepted checker x → stateOf (begun checker x) ≡ fresh (x .image) (x .root)
 same-begins x acc = begins (x .image) (x .track) (x .root) acc
 
-same-plain : (x : Session) → Accepted x → plainRunOf x ≡ map seen (checked x)
+same-plain : (x : Session) → Accepted checker x → plainRunOf checker x ≡ map seen (checked checker x)
 unfolding movesOf
 same-plain x acc =
-    sym (plain-trace (fresh (x .image) (x .root)) (toldOf x))
-    ∙ ap (λ l. trace tables (plain tables) (fresh (x .image) (x .root)) tt l (λ i. [])) (sym (told-same (begun x) (x .operations)))
-    ∙ agrees tables checker carries (plain tables) (plain-sound tables checker carries) (x .image, x .root) (x .track) acc (x .operations) [] (λ i. [])
-    ∙ own-same (begun x) (x .operations)
+    sym (plain-trace (fresh (x .image) (x .root)) (toldOf checker x))
+    ∙ ap (λ l. trace tables (plain tables) (fresh (x .image) (x .root)) tt l (λ i. [])) (sym (told-same (begun checker x) (x .operations)))
+    ∙ agrees tables theory carries (plain tables) (plain-sound tables theory carries) (x .image, x .root) (x .track) acc (x .operations) [] (λ i. [])
+    ∙ own-same (begun checker x) (x .operations)
 
-pub same-chip : (x : Session) → Accepted x → (n : ℕ) (first : List Move) (script : ℕ → List Move) →
-    map chipSeen (chipRunOf x (suc n) first script) ≡ map seen (checked x)
+pub same-chip : (x : Session) → Accepted checker x → (n : ℕ) (first : List Move) (script : ℕ → List Move) →
+    map chipSeen (chipRunOf checker x (suc n) first script) ≡ map seen (checked checker x)
 unfolding chipStart
 same-chip x acc n first script =
-    sym (chip-trace n (chipStartOf x (suc n) first) (toldOf x) script)
-    ∙ ap₂ (λ (h : Places) l. trace tables (tlbOf n) (chipStartOf x (suc n) first .state) h l script) (sym (start-held n (fresh (x .image) (x .root)) first)) (sym (told-same (begun x) (x .operations)))
-    ∙ agrees tables checker carries (tlbOf n) (tlb-sound tables checker carries 16 keeps (tlbOf n) HoldsIn (tlb-laws n)) (x .image, x .root) (x .track) acc (x .operations) first script
-    ∙ own-same (begun x) (x .operations)
+    sym (chip-trace n (chipStartOf x (suc n) first) (toldOf checker x) script)
+    ∙ ap₂ (λ (h : Places) l. trace tables (tlbOf n) (chipStartOf x (suc n) first .state) h l script) (sym (start-held n (fresh (x .image) (x .root)) first)) (sym (told-same (begun checker x) (x .operations)))
+    ∙ agrees tables theory carries (tlbOf n) (tlb-sound tables theory carries 16 keeps (tlbOf n) HoldsIn (tlb-laws n)) (x .image, x .root) (x .track) acc (x .operations) first script
+    ∙ own-same (begun checker x) (x .operations)
 
-pub same : Same
+pub same : Same checker
 same = record { begins = same-begins; plain = same-plain; chip = same-chip }
 
 -- ── The second half ──
@@ -183,10 +183,10 @@ last-seen x [] o = refl
 last-seen x (y ∷ ys) o = last-seen y ys (cond (isRefused (shown (y .answer))) none (some (shown (y .answer))))
 
 -- the plain machine ends in the checker's state
-pub plain-end : (x : Session) → Accepted x → plainEnd x ≡ stateOf (atEnd x)
+pub plain-end : (x : Session) → Accepted checker x → plainEnd checker x ≡ stateOf (atEnd checker x)
 plain-end x acc =
     ap₂ (λ (s : State) (l : List (Option Result × State)). last {A = Option Result × State} (none, s) l .1) (sym (same-begins x acc)) (same-plain x acc)
-    ∙ last-seen (begun x) (checked x) none
+    ∙ last-seen (begun checker x) (checked checker x) none
 
 -- an aligned access has a page
 has-page : (o : Operation) → alignedAccess o ≡ true → pageOf o ≡ some (o .a / pageSize)
@@ -207,50 +207,50 @@ reply-16 (refused n) r p = ap refused (let z : n ≡ r = cc in z)
 
 -- what a chip holds at the end, in the theory's words and in the reference's
 end-held : (x : Session) (n : ℕ) (first : List Move) (script : ℕ → List Move) →
-    heldAtEnd tables (tlbOf n) (fresh (x .image) (x .root)) (movesOf tables (tlbOf n) (fresh (x .image) (x .root)) (replicate (suc n) none) first) (toldOf x) script
-    ≡ last (chipStartOf x (suc n) first) (chipRunOf x (suc n) first script) .held
+    heldAtEnd tables (tlbOf n) (fresh (x .image) (x .root)) (movesOf tables (tlbOf n) (fresh (x .image) (x .root)) (replicate (suc n) none) first) (toldOf checker x) script
+    ≡ last (chipStartOf x (suc n) first) (chipRunOf checker x (suc n) first script) .held
 unfolding chipStart
 end-held x n first script =
-    ap (λ (h : Places). heldAtEnd tables (tlbOf n) (fresh (x .image) (x .root)) h (toldOf x) script) (start-held n (fresh (x .image) (x .root)) first)
-    ∙ chip-end n (chipStartOf x (suc n) first) (toldOf x) script
+    ap (λ (h : Places). heldAtEnd tables (tlbOf n) (fresh (x .image) (x .root)) h (toldOf checker x) script) (start-held n (fresh (x .image) (x .root)) first)
+    ∙ chip-end n (chipStartOf x (suc n) first) (toldOf checker x) script
 
-module _ (x : Session) (acc : Accepted x) (o : Operation) where
+module _ (x : Session) (acc : Accepted checker x) (o : Operation) where
   abbrev s₁ : State
-  s₁ = stateOf (atEnd x)
+  s₁ = stateOf (atEnd checker x)
 
   abbrev page : ℕ
   page = o .a / pageSize
 
   -- in the theory's words
   abbrev Can : ℕ → Type 0
-  Can n = CanDiffer tables (tlbOf n) HoldsIn (x .image, x .root) (toldOf x) s₁ page
+  Can n = CanDiffer tables (tlbOf n) HoldsIn (x .image, x .root) (toldOf checker x) s₁ page
 
-  page-walk : (e : Entry) → outcome (plainEnd x) (o .a) ≡ found e → walkOf s₁ page ≡ entry e
+  page-walk : (e : Entry) → outcome (plainEnd checker x) (o .a) ≡ found e → walkOf s₁ page ≡ entry e
   unfolding walkOf
   page-walk e q = ap asWalk (outcome-page s₁ (o .a) ∙ ap (λ s. outcome s (o .a)) (sym (plain-end x acc)) ∙ q)
 
-  walk-page : (e : Entry) → walkOf s₁ page ≡ entry e → outcome (plainEnd x) (o .a) ≡ found e
+  walk-page : (e : Entry) → walkOf s₁ page ≡ entry e → outcome (plainEnd checker x) (o .a) ≡ found e
   unfolding walkOf
   walk-page e q = ap (λ s. outcome s (o .a)) (plain-end x acc) ∙ sym (outcome-page s₁ (o .a)) ∙ as-found (outcome s₁ (page * pageSize)) e q
 
-  to-reference : (n : ℕ) → Can n → CouldDiffer x o
+  to-reference : (n : ℕ) → Can n → CouldDiffer checker x o
   to-reference n y =
       let b = and-both (eqb (y .tag .0) (s₁ .registers .context)) (eqb (y .tag .1) page) (y .serving) in
-      let under : Within (held (s₁ .registers .context) page (y .entryHeld)) (last (chipStartOf x (suc n) (y .first)) (chipRunOf x (suc n) (y .first) (y .after)) .held) =
+      let under : Within (held (s₁ .registers .context) page (y .entryHeld)) (last (chipStartOf x (suc n) (y .first)) (chipRunOf checker x (suc n) (y .first) (y .after)) .held) =
       subst (λ (h : Places). Within (held (s₁ .registers .context) page (y .entryHeld)) h) (end-held x n (y .first) (y .after))
-      (subst (λ (u : ℕ × ℕ). HoldsIn u (y .entryHeld) (heldAtEnd tables (tlbOf n) (fresh (x .image) (x .root)) (movesOf tables (tlbOf n) (fresh (x .image) (x .root)) (replicate (suc n) none) (y .first)) (toldOf x) (y .after)))
+      (subst (λ (u : ℕ × ℕ). HoldsIn u (y .entryHeld) (heldAtEnd tables (tlbOf n) (fresh (x .image) (x .root)) (movesOf tables (tlbOf n) (fresh (x .image) (x .root)) (replicate (suc n) none) (y .first)) (toldOf checker x) (y .after)))
       (λ i. (eqb-true (y .tag .0) (s₁ .registers .context) (b .0) i, eqb-true (y .tag .1) page (b .1) i)) (y .holds)) in
       record {
         places = n;
         first = y .first;
         script = y .after;
         entry = y .entryHeld;
-        held = subst (λ (s : State). Holds (s .registers .context) page (y .entryHeld) (last (chipStartOf x (suc n) (y .first)) (chipRunOf x (suc n) (y .first) (y .after)) .held))
+        held = subst (λ (s : State). Holds (s .registers .context) page (y .entryHeld) (last (chipStartOf x (suc n) (y .first)) (chipRunOf checker x (suc n) (y .first) (y .after)) .held))
             (sym (plain-end x acc)) (within-holds (s₁ .registers .context) page (y .entryHeld) _ under);
         other = λ q. y .differs (page-walk (y .entryHeld) q);
       }
 
-  from-reference : CouldDiffer x o → (n : ℕ) × Can n
+  from-reference : CouldDiffer checker x o → (n : ℕ) × Can n
   from-reference y = (
     y .places,
     record {
@@ -260,7 +260,7 @@ module _ (x : Session) (acc : Accepted x) (o : Operation) where
       entryHeld = y .entry;
       holds = subst (λ (h : Places). Within (held (s₁ .registers .context) page (y .entry)) h) (sym (end-held x (y .places) (y .first) (y .script)))
           (holds-within (s₁ .registers .context) page (y .entry) _
-          (subst (λ (s : State). Holds (s .registers .context) page (y .entry) (last (chipStartOf x (suc (y .places)) (y .first)) (chipRunOf x (suc (y .places)) (y .first) (y .script)) .held)) (plain-end x acc) (y .held)));
+          (subst (λ (s : State). Holds (s .registers .context) page (y .entry) (last (chipStartOf x (suc (y .places)) (y .first)) (chipRunOf checker x (suc (y .places)) (y .first) (y .script)) .held)) (plain-end x acc) (y .held)));
       serving = ap₂ _&&_ (eq-eqb (s₁ .registers .context) (s₁ .registers .context) refl) (eq-eqb page page refl);
       differs = λ q. y .other (walk-page (y .entry) q);
     },
@@ -273,23 +273,23 @@ module _ (x : Session) (acc : Accepted x) (o : Operation) where
       (replyOf (shown (callOf s t o .answer)) ≡ refusedBy 16) ↔ ((n : ℕ) × CanDiffer tables (tlbOf n) HoldsIn (x .image, x .root) l s page)
 
   -- the theory's second half, of the state and the track at the end
-  in-theory : alignedAccess o ≡ true → ((r : ℕ) → shown (next o (atEnd x) .answer) ≡ refused r → r ≡ 16) →
-      (replyOf (shown (next o (atEnd x) .answer)) ≡ refusedBy 16) ↔ ((n : ℕ) × Can n)
+  in-theory : alignedAccess o ≡ true → ((r : ℕ) → shown (next checker o (atEnd checker x) .answer) ≡ refused r → r ≡ 16) →
+      (replyOf (shown (next checker o (atEnd checker x) .answer)) ≡ refusedBy 16) ↔ ((n : ℕ) × Can n)
   in-theory p h =
-      subst₃ Claim (end-state (begun x) (x .operations)) (end-track (begun x) (x .operations)) (told-same (begun x) (x .operations))
-      (λ q. exact tables checker carries 16 keeps tlbOf (λ n. HoldsIn) tlb-laws (x .image, x .root) (x .track) acc (x .operations) o page (has-page o p) q)
-      (λ r q. h r (reply-16 (shown (next o (atEnd x) .answer)) r q))
+      subst₃ Claim (end-state (begun checker x) (x .operations)) (end-track (begun checker x) (x .operations)) (told-same (begun checker x) (x .operations))
+      (λ q. exact tables theory carries 16 keeps tlbOf (λ n. HoldsIn) tlb-laws (x .image, x .root) (x .track) acc (x .operations) o page (has-page o p) q)
+      (λ r q. h r (reply-16 (shown (next checker o (atEnd checker x) .answer)) r q))
 
-  stale : alignedAccess o ≡ true → ((r : ℕ) → shown (next o (atEnd x) .answer) ≡ refused r → r ≡ 16) →
-      (shown (next o (atEnd x) .answer) ≡ refused 16) ↔ CouldDiffer x o
+  stale : alignedAccess o ≡ true → ((r : ℕ) → shown (next checker o (atEnd checker x) .answer) ≡ refused r → r ≡ 16) →
+      (shown (next checker o (atEnd checker x) .answer) ≡ refused 16) ↔ CouldDiffer checker x o
   stale p h = (
     λ q. let z = in-theory p h .0 (ap replyOf q) in to-reference (z .0) (z .1),
-    λ y. reply-16 (shown (next o (atEnd x) .answer)) 16 (in-theory p h .1 (from-reference y)),
+    λ y. reply-16 (shown (next checker o (atEnd checker x) .answer)) 16 (in-theory p h .1 (from-reference y)),
   )
 
-pub exactly : Exactly
+pub exactly : Exactly checker
 exactly = record { stale = λ x acc o p h. stale x acc o p h }
 
 -- The third demand.
-pub invisible : Invisible
+pub invisible : Invisible checker
 invisible = record { same = same; exactly = exactly }

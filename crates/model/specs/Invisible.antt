@@ -10,8 +10,8 @@ use lib.ListN.{length, getD}
 use Rattle.model.specs.Limits.{pageSize, rowSize}
 use Rattle.model.specs.Numbers.{Result, fault, refused, shown}
 use Rattle.model.specs.reference.Rules.{Translation, found, failed, State, fresh, effect, outcome, aligned, among, Held, Places, heldFor, Move, drop, load, move, chipOutcome}
-use Rattle.model.specs.reference.Runs.{last, next, checkerRun, isRefused, seen, told, plainRun, Moment, chipStart, chipRun, chipSeen, Holds}
-use Rattle.model.specs.step.Machine.{After, started}
+use Rattle.model.specs.reference.Runs.{last, Checker, next, checkerRun, isRefused, seen, told, plainRun, Moment, chipStart, chipRun, chipSeen, Holds}
+use Rattle.model.specs.step.Machine.{After, started, stepped}
 use Rattle.model.specs.Types.{Operation, Read, Write, Entry}
 
 -- A start with any image, any track and any root, and a list of operations of any kind with any fields.
@@ -21,70 +21,76 @@ pub record Session : Type 0 where
   pub root : ℕ
   pub operations : List Operation
 
--- the checker's start, and that it is accepted
-abbrev pub begun : Session → After
-begun x = started (x .image) (x .track) (x .root)
-
-abbrev pub Accepted : Session → Type 0
-Accepted x = isRefused (shown (begun x .answer)) ≡ false
-
--- the checker's run, and what is told of it
-abbrev pub checked : Session → List After
-checked x = checkerRun (begun x) (x .operations)
-
-abbrev pub toldOf : Session → List (Operation × Bool)
-toldOf x = told (begun x) (x .operations)
-
--- the plain machine's run, and the chip's with n places and these moves: they are given image and root, and what is told
-abbrev pub plainRunOf : Session → List (Option Result × State)
-plainRunOf x = plainRun (fresh (x .image) (x .root)) (toldOf x)
-
+-- the chip with n places before the first operation: it is given image and root
 abbrev pub chipStartOf : Session → ℕ → List Move → Moment
 chipStartOf x n first = chipStart n (fresh (x .image) (x .root)) first
-
-abbrev pub chipRunOf : Session → ℕ → List Move → (ℕ → List Move) → List Moment
-chipRunOf x n first script = chipRun (chipStartOf x n first) (toldOf x) script
-
--- The first half: whatever a TLB of any size from one place up does, the chip with it, the machine with none and the checker give each
--- operation not refused the same answer, and agree after every operation in all registers and memory bytes.
-pub record Same : Type 0 where
-  pub begins : (x : Session) → Accepted x → (record { memory = begun x .memory; registers = begun x .registers }) ≡ fresh (x .image) (x .root)
-  pub plain : (x : Session) → Accepted x → plainRunOf x ≡ map seen (checked x)
-  pub chip : (x : Session) → Accepted x → (n : ℕ) (first : List Move) (script : ℕ → List Move) →
-      map chipSeen (chipRunOf x (suc n) first script) ≡ map seen (checked x)
-
--- what the checker and the plain machine have come to at the end of the list
-abbrev pub atEnd : Session → After
-atEnd x = last (begun x) (checked x)
-
-abbrev pub plainEnd : Session → State
-plainEnd x = last (none, fresh (x .image) (x .root)) (plainRunOf x) .1
 
 -- an access whose size is 1, 2 or 4 and divides its address
 unfoldable pub alignedAccess : Operation → Bool
 alignedAccess o =
     among (o .kind) (Read ∷ Write ∷ []) && (eqb (o .b) 1 || eqb (o .b) 2 || eqb (o .b) 4) && aligned (o .a) (o .b)
 
--- some TLB could then hold, for the page of o in the current context, an entry other than the present outcome
-pub record CouldDiffer (x : Session) (o : Operation) : Type 0 where
-  pub places : ℕ
-  pub first : List Move
-  pub script : ℕ → List Move
-  pub entry : Entry
-  pub held : Holds (plainEnd x .registers .context) (o .a / pageSize) entry
-      (last (chipStartOf x (suc places) first) (chipRunOf x (suc places) first script) .held)
-  pub other : outcome (plainEnd x) (o .a) ≡ found entry → ⊥
+module _ (m : Checker) where
+  -- the checker's start, and that it is accepted
+  abbrev pub begun : Session → After
+  begun x = m .start (x .image) (x .track) (x .root)
 
--- The second half: after such a list, an aligned access that no other number turns back is refused as stale exactly when some such
--- TLB could then hold for its page and context an entry other than the tables' present outcome.
-pub record Exactly : Type 0 where
-  pub stale : (x : Session) → Accepted x → (o : Operation) → alignedAccess o ≡ true →
-      ((r : ℕ) → shown (next o (atEnd x) .answer) ≡ refused r → r ≡ 16) →
-      (shown (next o (atEnd x) .answer) ≡ refused 16) ↔ CouldDiffer x o
+  abbrev pub Accepted : Session → Type 0
+  Accepted x = isRefused (shown (begun x .answer)) ≡ false
 
-pub record Invisible : Type 0 where
-  pub same : Same
-  pub exactly : Exactly
+  -- the checker's run, and what is told of it
+  abbrev pub checked : Session → List After
+  checked x = checkerRun m (begun x) (x .operations)
+
+  abbrev pub toldOf : Session → List (Operation × Bool)
+  toldOf x = told m (begun x) (x .operations)
+
+  -- the plain machine's run, and the chip's with n places and these moves: they are given image and root, and what is told
+  abbrev pub plainRunOf : Session → List (Option Result × State)
+  plainRunOf x = plainRun (fresh (x .image) (x .root)) (toldOf x)
+
+  abbrev pub chipRunOf : Session → ℕ → List Move → (ℕ → List Move) → List Moment
+  chipRunOf x n first script = chipRun (chipStartOf x n first) (toldOf x) script
+
+  -- The first half: whatever a TLB of any size from one place up does, the chip with it, the machine with none and the checker give
+  -- each operation not refused the same answer, and agree after every operation in all registers and memory bytes.
+  pub record Same : Type 0 where
+    pub begins : (x : Session) → Accepted x → (record { memory = begun x .memory; registers = begun x .registers }) ≡ fresh (x .image) (x .root)
+    pub plain : (x : Session) → Accepted x → plainRunOf x ≡ map seen (checked x)
+    pub chip : (x : Session) → Accepted x → (n : ℕ) (first : List Move) (script : ℕ → List Move) →
+        map chipSeen (chipRunOf x (suc n) first script) ≡ map seen (checked x)
+
+  -- what the checker and the plain machine have come to at the end of the list
+  abbrev pub atEnd : Session → After
+  atEnd x = last (begun x) (checked x)
+
+  abbrev pub plainEnd : Session → State
+  plainEnd x = last (none, fresh (x .image) (x .root)) (plainRunOf x) .1
+
+  -- some TLB could then hold, for the page of o in the current context, an entry other than the present outcome
+  pub record CouldDiffer (x : Session) (o : Operation) : Type 0 where
+    pub places : ℕ
+    pub first : List Move
+    pub script : ℕ → List Move
+    pub entry : Entry
+    pub held : Holds (plainEnd x .registers .context) (o .a / pageSize) entry
+        (last (chipStartOf x (suc places) first) (chipRunOf x (suc places) first script) .held)
+    pub other : outcome (plainEnd x) (o .a) ≡ found entry → ⊥
+
+  -- The second half: after such a list, an aligned access that no other number turns back is refused as stale exactly when some such
+  -- TLB could then hold for its page and context an entry other than the tables' present outcome.
+  pub record Exactly : Type 0 where
+    pub stale : (x : Session) → Accepted x → (o : Operation) → alignedAccess o ≡ true →
+        ((r : ℕ) → shown (next m o (atEnd x) .answer) ≡ refused r → r ≡ 16) →
+        (shown (next m o (atEnd x) .answer) ≡ refused 16) ↔ CouldDiffer x o
+
+  pub record Invisible : Type 0 where
+    pub same : Same
+    pub exactly : Exactly
+
+-- the checker of this project
+abbrev pub checker : Checker
+checker = record { start = started; step = stepped }
 
 -- What a chip of n places holds after any list of operations, told which were refused, and any moves.
 abbrev pub heldBy : ℕ → State → List (Operation × Bool) → List Move → (ℕ → List Move) → Places
@@ -113,6 +119,7 @@ pub record Pinned : Type 0 where
   pub faultAnswers : (o : Operation) (s : State) (f : ℕ → Translation) (n : ℕ) → alignedAccess o ≡ true → f (o .a) ≡ failed n →
       effect (o .kind) o s f ≡ (fault n, s)
   -- the checker, the plain machine and every chip end in the state that the second half speaks of
-  pub checkerEnds : (x : Session) → Accepted x → (record { memory = atEnd x .memory; registers = atEnd x .registers }) ≡ plainEnd x
-  pub chipEnds : (x : Session) → Accepted x → (n : ℕ) (first : List Move) (script : ℕ → List Move) →
-      last (chipStartOf x (suc n) first) (chipRunOf x (suc n) first script) .state ≡ plainEnd x
+  pub checkerEnds : (x : Session) → Accepted checker x →
+      (record { memory = atEnd checker x .memory; registers = atEnd checker x .registers }) ≡ plainEnd checker x
+  pub chipEnds : (x : Session) → Accepted checker x → (n : ℕ) (first : List Move) (script : ℕ → List Move) →
+      last (chipStartOf x (suc n) first) (chipRunOf checker x (suc n) first script) .state ≡ plainEnd checker x

@@ -1,4 +1,4 @@
--- Lists of operations: the checker, the plain machine and the chip over the same list.
+-- Lists of operations: a checker, the plain machine and the chip over the same list.
 use Prim.Native.Nat.{ℕ, suc}
 use mathlib.Core.Path.{_≡_}
 use mathlib.Core.Logic.{_⊎_}
@@ -8,21 +8,26 @@ use mathlib.Core.Option.{Option, none, some}
 use lib.ListN.{replicate}
 use Rattle.model.specs.Numbers.{Result, ok, fault, refused, shown}
 use Rattle.model.specs.reference.Rules.{State, fresh, plainStep, Held, Places, Move, moves, chipStep}
-use Rattle.model.specs.step.Machine.{After, stepped}
-use Rattle.model.specs.Types.{Operation, Entry}
+use Rattle.model.specs.step.Machine.{After}
+use Rattle.model.specs.Types.{Registers, Operation, Entry}
 
 -- the last of what a run gives, or what it began with
 unfoldable pub last : {A : Type 0} → A → List A → A
 last x [] = x
 last x (y ∷ ys) = last y ys
 
--- ── The checker: each operation is handed what the one before returned and left ──
-abbrev pub next : Operation → After → After
-next o x = stepped o (x .registers) (x .memory) (x .track)
+-- ── A checker: a start, given memory, track and root, and a step ──
+pub record Checker : Type 0 where
+  pub start : List ℕ → List ℕ → ℕ → After
+  pub step : Operation → Registers → List ℕ → List ℕ → After
 
-unfoldable pub checkerRun : After → List Operation → List After
-checkerRun x [] = []
-checkerRun x (o ∷ os) = next o x ∷ checkerRun (next o x) os
+-- Each operation is handed what the one before returned and left.
+abbrev pub next : Checker → Operation → After → After
+next m o x = m .step o (x .registers) (x .memory) (x .track)
+
+unfoldable pub checkerRun : Checker → After → List Operation → List After
+checkerRun m x [] = []
+checkerRun m x (o ∷ os) = next m o x ∷ checkerRun m (next m o x) os
 
 -- whether an operation was refused, and what it shows: an answer if it was not, memory and registers
 unfoldable pub isRefused : Result → Bool
@@ -34,9 +39,9 @@ unfoldable pub seen : After → Option Result × State
 seen x = (cond (isRefused (shown (x .answer))) none (some (shown (x .answer))), record { memory = x .memory; registers = x .registers })
 
 -- What the chip and the plain machine are told: the operations, and which were refused.
-unfoldable pub told : After → List Operation → List (Operation × Bool)
-told x [] = []
-told x (o ∷ os) = (o, isRefused (shown (next o x .answer))) ∷ told (next o x) os
+unfoldable pub told : Checker → After → List Operation → List (Operation × Bool)
+told m x [] = []
+told m x (o ∷ os) = (o, isRefused (shown (next m o x .answer))) ∷ told m (next m o x) os
 
 -- ── The plain machine: the answers and states after each operation ──
 unfoldable pub plainRun : State → List (Operation × Bool) → List (Option Result × State)
