@@ -44,7 +44,7 @@ put-holds i c p (found e) ps h y = go (within-put h (held c p e) i ps y)
 put-holds i c p (failed n) ps h y = inl y
 
 -- what a load brings: an entry that the tables now give for a page of the window, under the current context
-load-brings : (s : State) (ps : Places) (i page : ℕ) (h : Held) → Within h (move s ps (load i page)) →
+pub load-brings : (s : State) (ps : Places) (i page : ℕ) (h : Held) → Within h (move s ps (load i page)) →
     Within h ps ⊎ ((e : Entry) × (ltb page rowSize ≡ true) × (outcome s (page * pageSize) ≡ found e) × (held (s .registers .context) page e ≡ h))
 unfolding move
 load-brings s ps i page h y =

@@ -15,6 +15,7 @@ pub mod Kept
 pub mod Chips
 pub mod ThirdDemand
 pub mod Pinned
+pub mod Refuted
 pub mod CaseTools
 pub mod PaperCases
 pub mod WiderCases

@@ -484,6 +484,8 @@ sizes small =
     ∷ (answered (next Read 0x12 2 0 user), 0x4433)
     ∷ (answered (next Read 0x10 4 0 user), 0x44332211)
     ∷ (answered (next Read 0x14 4 0 user), 0x88776655)
+    -- through page 3, which may be read and not written
+    ∷ (answered (next Read 0x3014 4 0 user), 0x88776655)
     -- the last bytes of memory
     ∷ (answered (next Read 0xFFF 1 0 user), 0)
     ∷ (answered (next Read 0xFFE 2 0 user), 0)
@@ -550,6 +552,7 @@ registers small =
     let other = next Asid 1 0 0 start in
     let moved = next Root 0x100 0 0 other in
     let user = next Mode 1 0 0 moved in
+    let kernel = next Mode 0 0 0 user in
     let empty = given 0x80 1 0 small emptyTrack in
     -- `asid` notes the row of the new context
     tracked other (0x602, 0x202, 0) (0x602, 0x202, 0)
@@ -560,11 +563,15 @@ registers small =
     ++ tracked (next Read 0x10 4 0 empty) (0, 0, 0) (0x602, 0x202, 0)
     ++ tracked (next Write 0x10 4 0 empty) (0, 0, 0) (0x602, 0x202, 0)
     ++ tracked (next Read 0x100000 4 0 empty) (0, 0, 0) (0x602, 0x202, 0)
-    -- each sets its own register; `mode` does in both modes
-    ++ (returned other, packed 0x80 1 0)
+    -- each answers 0 and sets its own register; `mode` does in both modes
+    ++ (answered other, 0)
+    ∷ (answered moved, 0)
+    ∷ (answered user, 0)
+    ∷ (answered kernel, 0)
+    ∷ (returned other, packed 0x80 1 0)
     ∷ (returned moved, packed 0x100 1 0)
     ∷ (returned user, packed 0x100 1 1)
-    ∷ (returned (next Mode 0 0 0 user), packed 0x100 1 0)
+    ∷ (returned kernel, packed 0x100 1 0)
     -- under the new root pages 0 and 3 are stale: one has two entries, the other one entry and no mapping
     ∷ (wordAt (moved .track) 1 3, 0xE02)
     ∷ (answered (next Read 0x10 4 0 moved), refusalCode 16)

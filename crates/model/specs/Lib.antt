@@ -6,3 +6,4 @@ pub mod reference
 pub mod step
 pub mod Demands
 pub mod Invisible
+pub mod Wrong

@@ -1,0 +1,360 @@
+-- Wrong checkers refuted: the third demand does not hold of them.
+use Prim.Native.Nat.{ℕ, zero, suc, _+_, _*_, _/_, _<_, _≤_}
+use mathlib.Core.Path.{_≡_, refl, sym, ap, ap₂, _∙_, subst}
+use mathlib.Core.Logic.{_⊎_, inl, inr}
+use mathlib.Core.Bool.{Bool, true, false, cond, true≢false}
+use mathlib.Core.Option.{Option, none, some}
+use mathlib.Core.List.{List, [], _∷_, map}
+use native.Mathlib.Decide.{ℕ-discrete}
+use native.Mathlib.Omega.{arith}
+use lib.Dec.{eqb, ltb, leb}
+use lib.ListN.{length, set, replicate}
+use Rattle.tlb.specs.Places.{Within}
+use Rattle.tlb.proofs.PlaceLaws.{within-none, within-dropped}
+use Rattle.model.specs.Limits.{pageSize, rowSize}
+use Rattle.model.specs.Numbers.{Result, ok, fault, refused, shown}
+use Rattle.model.specs.reference.Rules.{Translation, found, failed, State, fresh, aligned, outcome, setRegisters, effect, carriedOut, plainStep, trackWord, Held, Places, heldFor, Move, drop, load, isFree, putIn, move, moves, chipStep, flushPlace, flushes, walk, descriptor, tableWord, section, bits, value, inMemory, conditions, startConditions, Given, among, contexts, refuses7, refuses8, refuses9, refuses10, refuses11, refuses12, refuses13, refuses14, refuses15, refuses16}
+use Rattle.model.specs.reference.Runs.{last, Checker, next, checkerRun, isRefused, told, seen, plainRun, Moment, chipStart, chipNext, chipRun, Holds}
+use Rattle.model.specs.step.Machine.{After}
+use Rattle.model.specs.Invisible.{Session, begun, Accepted, checked, toldOf, chipStartOf, chipRunOf, plainEnd, atEnd, alignedAccess, CouldDiffer, Same, Exactly, Invisible}
+use Rattle.model.specs.Wrong.{SaysStaleAtOnce, Orderly, Copies, AlikeBut, LooksElsewhere}
+use Rattle.model.specs.Types.{Registers, Operation, Kind, Read, Root, Entry}
+use Rattle.model.proofs.Calls.{firstHolding, given-first, none-some}
+use Rattle.model.proofs.Instance.{stateOf, outcome-page}
+use Rattle.model.proofs.Chips.{held, load-brings}
+use Rattle.model.proofs.ThirdDemand.{holds-within}
+
+-- ── What is held was loaded ──
+
+-- everything held meets P
+abbrev All : (Held → Type 0) → Places → Type 0
+All P ps = (h : Held) → Within h ps → P h
+
+module _ (P : Held → Type 0) (s : State) (loads : (page : ℕ) (e : Entry) → outcome s (page * pageSize) ≡ found e → P (held (s .registers .context) page e)) where
+  pub move-all : (ps : Places) (m : Move) → All P ps → All P (move s ps m)
+  move-all ps (drop i) a h y = a h (within-dropped h i ps (unfold move in y))
+  move-all ps (load i page) a h y = go (load-brings s ps i page h y)
+    where
+      go : Within h ps ⊎ ((e : Entry) × (ltb page rowSize ≡ true) × (outcome s (page * pageSize) ≡ found e) × (held (s .registers .context) page e ≡ h)) → P h
+      go (inl w) = a h w
+      go (inr z) = subst P (z .3) (loads page (z .0) (z .2))
+
+  pub moves-all : (ps : Places) (ms : List Move) → All P ps → All P (moves s ps ms)
+  unfolding moves
+  moves-all ps [] a = a
+  moves-all ps (m ∷ ms) a = moves-all (move s ps m) ms (move-all ps m a)
+
+-- before the first operation a chip holds only present entries
+pub fresh-held : (n : ℕ) (s : State) (first : List Move) (c p : ℕ) (e : Entry) → Holds c p e (chipStart n s first .held) → outcome s (p * pageSize) ≡ found e
+unfolding chipStart
+fresh-held n s first c p e y =
+    moves-all (λ h. outcome s (h .page * pageSize) ≡ found (h .entry)) s (λ page x q. q) (replicate n none) first
+    (λ h w. absurd (within-none h n w)) (held c p e) (holds-within c p e _ y)
+
+-- so directly after a start no TLB can differ
+pub none-differs : (m : Checker) (x : Session) (o : Operation) → x .operations ≡ [] → CouldDiffer m x o → ⊥
+none-differs m x o e y = go (x .operations) e (y .held) (y .other)
+  where
+    go : (os : List Operation) → os ≡ [] →
+        Holds (last (none, fresh (x .image) (x .root)) (plainRun (fresh (x .image) (x .root)) (told m (begun m x) os)) .1 .registers .context) (o .a / pageSize) (y .entry)
+          (last (chipStartOf x (suc (y .places)) (y .first)) (chipRun (chipStartOf x (suc (y .places)) (y .first)) (told m (begun m x) os) (y .script)) .held) →
+        (outcome (last (none, fresh (x .image) (x .root)) (plainRun (fresh (x .image) (x .root)) (told m (begun m x) os)) .1) (o .a) ≡ found (y .entry) → ⊥) → ⊥
+    go [] q h d = unfold told plainRun chipRun last in at h d
+      where
+        at : Holds (fresh (x .image) (x .root) .registers .context) (o .a / pageSize) (y .entry) (chipStartOf x (suc (y .places)) (y .first) .held) →
+            (outcome (fresh (x .image) (x .root)) (o .a) ≡ found (y .entry) → ⊥) → ⊥
+        at h d = d (sym (outcome-page (fresh (x .image) (x .root)) (o .a)) ∙ fresh-held (suc (y .places)) (fresh (x .image) (x .root)) (y .first) _ (o .a / pageSize) (y .entry) h)
+    go (a ∷ rest) q h d = let z : _≡_ {A = Bool} true false = cc in true≢false z
+
+pub no-stale-at-once : (m : Checker) → SaysStaleAtOnce m → Invisible m → ⊥
+no-stale-at-once m w inv =
+    none-differs m (w .session) (w .operation) (w .nothingBefore)
+    (inv .exactly .stale (w .session) (w .accepted) (w .operation) (w .access) (λ r q. same-number r (sym (at-start ) ∙ q)) .0 at-start)
+  where
+    same-number : (r : ℕ) → _≡_ {A = Result} (refused 16) (refused r) → r ≡ 16
+    same-number r q = cc
+    at-start : shown (next m (w .operation) (atEnd m (w .session)) .answer) ≡ refused 16
+    at-start = subst (λ (os : List Operation). shown (next m (w .operation) (last (begun m (w .session)) (checkerRun m (begun m (w .session)) os)) .answer) ≡ refused 16)
+        (sym (w .nothingBefore)) (unfold checkerRun last in w .says16)
+
+-- ── A small image with two maps ──
+
+-- under root 0 nothing is mapped; under root 0x80 the first MiB is a section at 0 with AP 1
+image : List ℕ
+image = set (set (replicate 4096 0) 0x80 2) 0x81 4
+
+toRoot : ℕ → Operation
+toRoot a = record { kind = Root; a = a; b = 0; c = 0 }
+
+readPage2 : Operation
+readPage2 = record { kind = Read; a = 0x2000; b = 4; c = 0 }
+
+-- what a TLB can hold of page 2 while the root is 0x80
+entry2 : Entry
+entry2 = record { frame = 2; ap = 1 }
+
+-- the state with this root
+at : ℕ → State
+at root = record { memory = image; registers = record { root = root; context = 0; mode = 0 } }
+
+-- no condition of a start holds on this image with a track of this length
+start-free : (t : List ℕ) → length t ≡ 2048 → (firstHolding (startConditions image t 0) ≡ none) × (firstHolding (startConditions image t 0x80) ≡ none)
+unfolding startConditions firstHolding image refuses13 contexts
+start-free t e = (rw e, rw e)
+
+-- none of a change of root does
+root-free : (t : List ℕ) → length t ≡ 2048 → (firstHolding (conditions (toRoot 0x80) (at 0 .registers) image t) ≡ none) × (firstHolding (conditions (toRoot 0) (at 0x80 .registers) image t) ≡ none)
+unfolding conditions firstHolding image refuses13 refuses14 refuses7 refuses8 refuses9 refuses10 refuses11 refuses12 refuses15 refuses16 among contexts toRoot at
+root-free t e = (rw e, rw e)
+
+-- and of the read only 16 can
+read-free : (t : List ℕ) → length t ≡ 2048 → firstHolding (conditions readPage2 (at 0 .registers) image t) ≡ cond (refuses16 readPage2 (at 0 .registers) image t) (some 16) none
+unfolding conditions firstHolding image refuses13 refuses14 refuses7 refuses8 refuses9 refuses10 refuses11 refuses12 refuses15 among contexts readPage2 at
+read-free t e = rw e
+
+not-refused-is : (x : Result) → ((r : ℕ) → x ≡ refused r → ⊥) → isRefused x ≡ false
+unfolding isRefused
+not-refused-is (ok v) h = refl
+not-refused-is (fault n) h = refl
+not-refused-is (refused r) h = absurd (h r refl)
+
+no-given : (xs : List (ℕ × Bool)) (r : ℕ) → firstHolding xs ≡ none → Given r xs → ⊥
+no-given xs r free g = none-some r (sym free ∙ given-first xs r g)
+
+-- the state of the n-th element of a run
+headState : List (Option Result × State) → State
+headState [] = at 0
+headState (y ∷ ys) = y .1
+
+tailOf : List (Option Result × State) → List (Option Result × State)
+tailOf [] = []
+tailOf (y ∷ ys) = ys
+
+-- ── A read of a page that some TLB may still hold ──
+
+-- after what was told, a TLB of one place with these moves holds the entry of page 2, and the tables no longer map it
+abbrev Differs : ℕ → List Move → (ℕ → List Move) → List (Operation × Bool) → Type 0
+Differs root first script l =
+    Holds (last {A = Option Result × State} (none, fresh image root) (plainRun (fresh image root) l) .1 .registers .context) (readPage2 .a / pageSize) entry2
+      (last (chipStart 1 (fresh image root) first) (chipRun (chipStart 1 (fresh image root) first) l script) .held)
+    × (outcome (last {A = Option Result × State} (none, fresh image root) (plainRun (fresh image root) l) .1) (readPage2 .a) ≡ found entry2 → ⊥)
+
+unfolded-found : (n : ℕ) (e : Entry) → failed n ≡ found e → ⊥
+unfolded-found n e q = let z : _≡_ {A = Bool} true false = cc in true≢false z
+
+-- loaded before the root changes
+loaded-first : Differs 0x80 (load 0 2 ∷ []) (λ i. []) ((toRoot 0, false) ∷ [])
+unfolding last plainRun plainStep carriedOut effect setRegisters fresh chipStart chipRun chipNext chipStep moves move isFree heldFor putIn outcome walk descriptor tableWord section bits value inMemory flushPlace flushes Holds readPage2 toRoot entry2 image
+loaded-first = (inl refl, λ q. unfolded-found 2 entry2 q)
+
+-- loaded after the first change of root
+afterFirst : ℕ → List Move
+afterFirst zero = load 0 2 ∷ []
+afterFirst (suc i) = []
+
+loaded-between : Differs 0 [] afterFirst ((toRoot 0x80, false) ∷ (toRoot 0, false) ∷ [])
+unfolding last plainRun plainStep carriedOut effect setRegisters fresh chipStart chipRun chipNext chipStep moves move isFree heldFor putIn outcome walk descriptor tableWord section bits value inMemory flushPlace flushes Holds readPage2 toRoot entry2 image afterFirst
+loaded-between = (inl refl, λ q. unfolded-found 2 entry2 q)
+
+module _ (m : Checker) (ord : Orderly m) (inv : Invisible m) where
+  track0 : List ℕ
+  track0 = replicate 2048 0
+
+  long : length track0 ≡ 2048
+  unfolding track0
+  long = refl
+
+  session : ℕ → List Operation → Session
+  session root os = record { image = image; track = track0; root = root; operations = os }
+
+  -- a start that no condition turns back is accepted
+  accepts : (root : ℕ) → firstHolding (startConditions image track0 root) ≡ none → (os : List Operation) → Accepted m (session root os)
+  unfolding session
+  accepts root free os =
+      not-refused-is (shown (m .start image track0 root .answer)) (λ r q. no-given (startConditions image track0 root) r free (ord .starts image track0 root r q))
+
+  -- an operation on this state, with a track of this length
+  record Handed (x : After) (root : ℕ) : Type 0 where
+    state : stateOf x ≡ at root
+    long-track : length (x .track) ≡ 2048
+
+  begins : (root : ℕ) → firstHolding (startConditions image track0 root) ≡ none → Handed (m .start image track0 root) root
+  unfolding session fresh at
+  begins root free = record {
+    state = inv .same .begins (session root []) (accepts root free []);
+    long-track = ord .startLength image track0 root ∙ long;
+  }
+
+  -- a change of root that no condition turns back is carried out
+  changes : (x : After) (root a : ℕ) → Handed x root → ((t : List ℕ) → length t ≡ 2048 → firstHolding (conditions (toRoot a) (at root .registers) image t) ≡ none) →
+      isRefused (shown (next m (toRoot a) x .answer)) ≡ false
+  changes x root a h free = not-refused-is (shown (next m (toRoot a) x .answer)) (λ r q. go r q (ℕ-discrete r 16))
+    where
+      here : firstHolding (conditions (toRoot a) (x .registers) (x .memory) (x .track)) ≡ none
+      here =
+          ap (λ (s : State). firstHolding (conditions (toRoot a) (s .registers) (s .memory) (x .track))) (h .state)
+          ∙ (unfold at in free (x .track) (h .long-track))
+      go : (r : ℕ) → shown (next m (toRoot a) x .answer) ≡ refused r → Dec (r ≡ 16) → ⊥
+      go r q (yes e) = true≢false (sym (ord .only16 (toRoot a) (x .registers) (x .memory) (x .track) (q ∙ ap refused e)) ∙ (unfold alignedAccess among toRoot in refl))
+      go r q (no e) = no-given _ r here (ord .steps (toRoot a) (x .registers) (x .memory) (x .track) r q e)
+
+  -- the read, refused by no number but 16
+  only-16 : (x : After) → Handed x 0 → (r : ℕ) → shown (next m readPage2 x .answer) ≡ refused r → r ≡ 16
+  only-16 x h r q = go (ℕ-discrete r 16)
+    where
+      here : firstHolding (conditions readPage2 (x .registers) (x .memory) (x .track)) ≡ cond (refuses16 readPage2 (at 0 .registers) image (x .track)) (some 16) none
+      here =
+          ap (λ (s : State). firstHolding (conditions readPage2 (s .registers) (s .memory) (x .track))) (h .state)
+          ∙ (unfold at in read-free (x .track) (h .long-track))
+      by : (b : Bool) → cond b (some 16) none ≡ some r → r ≡ 16
+      by true e = cc
+      by false e = absurd (none-some r e)
+      go : Dec (r ≡ 16) → r ≡ 16
+      go (yes e) = e
+      go (no e) = by (refuses16 readPage2 (at 0 .registers) image (x .track)) (sym here ∙ given-first _ r (ord .steps readPage2 (x .registers) (x .memory) (x .track) r q e))
+
+  -- directly after the start with root 0 the read is not refused as stale
+  not-at-once : shown (next m readPage2 (m .start image track0 0) .answer) ≡ refused 16 → ⊥
+  unfolding session
+  not-at-once q = no-stale-at-once m (record {
+    session = session 0 [];
+    operation = readPage2;
+    nothingBefore = refl;
+    accepted = accepts 0 (start-free track0 long .0) [];
+    access = unfold alignedAccess among aligned readPage2 in refl;
+    says16 = q;
+  }) inv
+
+  -- then the read is refused as stale
+  is-stale : (root : ℕ) (os : List Operation) (first : List Move) (script : ℕ → List Move) (l : List (Operation × Bool)) →
+      Accepted m (session root os) → toldOf m (session root os) ≡ l → Differs root first script l → Handed (atEnd m (session root os)) 0 →
+      shown (next m readPage2 (atEnd m (session root os)) .answer) ≡ refused 16
+  unfolding session
+  is-stale root os first script l acc e d h =
+      let y = subst (Differs root first script) (sym e) d in
+      inv .exactly .stale (session root os) acc readPage2 (unfold alignedAccess among aligned readPage2 in refl) (only-16 (atEnd m (session root os)) h) .1
+      (record { places = 0; first = first; script = script; entry = entry2; held = y .0; other = y .1 })
+
+  -- the state after one change of root
+  one-changed : (root a : ℕ) → Accepted m (session root (toRoot a ∷ [])) → toldOf m (session root (toRoot a ∷ [])) ≡ (toRoot a, false) ∷ [] →
+      stateOf (next m (toRoot a) (m .start image track0 root)) ≡ at a
+  unfolding session
+  one-changed root a acc e =
+      sym
+      (ap (λ l. headState (plainRun (fresh image root) l)) (sym e)
+      ∙ ap headState (inv .same .plain (session root (toRoot a ∷ [])) acc)
+      ∙ (unfold headState checkerRun seen in refl))
+      ∙ (unfold headState plainRun plainStep carriedOut effect setRegisters fresh at toRoot in refl)
+
+  -- ── It looks for stale entries in other rows ──
+
+  module _ (w : LooksElsewhere m) where
+    free80 : firstHolding (startConditions image track0 0x80) ≡ none
+    free80 = start-free track0 long .1
+
+    b : After
+    b = m .start image track0 0x80
+
+    at-begin : Handed (m .start image track0 0x80) 0x80
+    at-begin = begins 0x80 free80
+
+    done : isRefused (shown (next m (toRoot 0) (m .start image track0 0x80) .answer)) ≡ false
+    done = changes (m .start image track0 0x80) 0x80 0 at-begin (λ t e. root-free t e .1)
+
+    told-one : toldOf m (session 0x80 (toRoot 0 ∷ [])) ≡ (toRoot 0, false) ∷ []
+    unfolding session told
+    told-one = λ i. (toRoot 0, done i) ∷ []
+
+    after-one : Handed (next m (toRoot 0) (m .start image track0 0x80)) 0
+    after-one = record {
+      state = one-changed 0x80 0 (accepts 0x80 free80 (toRoot 0 ∷ [])) told-one;
+      long-track = ord .stepLength (toRoot 0) _ _ _ ∙ at-begin .long-track;
+    }
+
+    stale-then : shown (next m readPage2 (next m (toRoot 0) (m .start image track0 0x80)) .answer) ≡ refused 16
+    unfolding session checkerRun last
+    stale-then =
+        is-stale 0x80 (toRoot 0 ∷ []) (load 0 2 ∷ []) (λ i. []) ((toRoot 0, false) ∷ []) (accepts 0x80 free80 (toRoot 0 ∷ [])) told-one loaded-first after-one
+
+    -- the same read directly after a start with root 0, on a track that differs at most in the row of context 0
+    alike : AlikeBut 0 (next m (toRoot 0) (m .start image track0 0x80) .track) (m .start image track0 0 .track)
+    alike = record {
+      lengths = after-one .long-track ∙ sym (begins 0 (start-free track0 long .0) .long-track);
+      others = λ c p n q.
+        subst (λ (s : State). (c ≡ s .registers .context → ⊥) → trackWord (next m (toRoot 0) (m .start image track0 0x80) .track) c p ≡ trackWord (m .start image track0 0x80 .track) c p)
+          (at-begin .state) (λ k. unfold toRoot in w .rootOthers 0 _ _ _ c p k q) (unfold at in n)
+        ∙ w .startOthers image track0 0x80 c p n q
+        ∙ sym (w .startOthers image track0 0 c p n q);
+    }
+
+    refuted : ⊥
+    refuted = not-at-once
+        (ap (λ (s : State). shown (m .step readPage2 (s .registers) (s .memory) (m .start image track0 0 .track) .answer)) (begins 0 (start-free track0 long .0) .state)
+        ∙ sym (ap shown (w .blind readPage2 (at 0 .registers) (at 0 .memory) (next m (toRoot 0) (m .start image track0 0x80) .track) (m .start image track0 0 .track) (unfold at in alike)))
+        ∙ ap (λ (s : State). shown (m .step readPage2 (s .registers) (s .memory) (next m (toRoot 0) (m .start image track0 0x80) .track) .answer)) (sym (after-one .state))
+        ∙ stale-then)
+
+  pub no-looking-elsewhere : LooksElsewhere m → ⊥
+  no-looking-elsewhere w = refuted w
+
+  -- ── It copies the track ──
+
+  module _ (w : Copies m) where
+    free0 : firstHolding (startConditions image track0 0) ≡ none
+    free0 = start-free track0 long .0
+
+    begin : Handed (m .start image track0 0) 0
+    begin = begins 0 free0
+
+    first-done : isRefused (shown (next m (toRoot 0x80) (m .start image track0 0) .answer)) ≡ false
+    first-done = changes (m .start image track0 0) 0 0x80 begin (λ t e. root-free t e .0)
+
+    first-told : toldOf m (session 0 (toRoot 0x80 ∷ [])) ≡ (toRoot 0x80, false) ∷ []
+    unfolding session told
+    first-told = λ i. (toRoot 0x80, first-done i) ∷ []
+
+    between : Handed (next m (toRoot 0x80) (m .start image track0 0)) 0x80
+    between = record {
+      state = one-changed 0 0x80 (accepts 0 free0 (toRoot 0x80 ∷ [])) first-told;
+      long-track = ord .stepLength (toRoot 0x80) _ _ _ ∙ begin .long-track;
+    }
+
+    both : List Operation
+    both = toRoot 0x80 ∷ toRoot 0 ∷ []
+
+    second-done : isRefused (shown (next m (toRoot 0) (next m (toRoot 0x80) (m .start image track0 0)) .answer)) ≡ false
+    second-done = changes (next m (toRoot 0x80) (m .start image track0 0)) 0x80 0 between (λ t e. root-free t e .1)
+
+    both-told : toldOf m (session 0 both) ≡ (toRoot 0x80, false) ∷ (toRoot 0, false) ∷ []
+    unfolding session told both
+    both-told = λ i. (toRoot 0x80, first-done i) ∷ (toRoot 0, second-done i) ∷ []
+
+    back-state : stateOf (next m (toRoot 0) (next m (toRoot 0x80) (m .start image track0 0))) ≡ at 0
+    unfolding session both
+    back-state =
+        sym
+        (ap (λ l. headState (tailOf (plainRun (fresh image 0) l))) (sym both-told)
+        ∙ ap (λ l. headState (tailOf l)) (inv .same .plain (session 0 both) (accepts 0 free0 both))
+        ∙ (unfold headState tailOf checkerRun seen in refl))
+        ∙ (unfold headState tailOf plainRun plainStep carriedOut effect setRegisters fresh at toRoot in refl)
+
+    back : Handed (next m (toRoot 0) (next m (toRoot 0x80) (m .start image track0 0))) 0
+    back = record { state = back-state; long-track = ord .stepLength (toRoot 0) _ _ _ ∙ between .long-track }
+
+    stale-back : shown (next m readPage2 (next m (toRoot 0) (next m (toRoot 0x80) (m .start image track0 0))) .answer) ≡ refused 16
+    unfolding session checkerRun last both
+    stale-back =
+        is-stale 0 both [] afterFirst ((toRoot 0x80, false) ∷ (toRoot 0, false) ∷ []) (accepts 0 free0 both) both-told loaded-between back
+
+    -- state and track are those directly after the start
+    copied : next m (toRoot 0) (next m (toRoot 0x80) (m .start image track0 0)) .track ≡ m .start image track0 0 .track
+    copied = w (toRoot 0) _ _ _ ∙ w (toRoot 0x80) _ _ _
+
+    copy-refuted : ⊥
+    copy-refuted = not-at-once
+        (ap (λ (s : State). shown (m .step readPage2 (s .registers) (s .memory) (m .start image track0 0 .track) .answer)) (begin .state)
+        ∙ ap₂ (λ (s : State) (t : List ℕ). shown (m .step readPage2 (s .registers) (s .memory) t .answer)) (sym back-state) (sym copied)
+        ∙ stale-back)
+
+  pub no-copying : Copies m → ⊥
+  no-copying w = copy-refuted w
