@@ -88,7 +88,7 @@ answerBy none o s = carriedOut o s
 abbrev pub checksOf : Call → List (Bool × Refusal)
 checksOf x = checks (x .operation) (x .registers) (length (x .memory)) (length (x .track))
 
-size-passed : (x : Call) → firstFailing (checksOf x) ≡ Pass → sizeFits (x .operation .kind) (x .operation .b) ≡ true
+pub size-passed : (x : Call) → firstFailing (checksOf x) ≡ Pass → sizeFits (x .operation .kind) (x .operation .b) ≡ true
 unfolding Hold checks
 size-passed x p = passed (checksOf x) p .1 .1 .0
 

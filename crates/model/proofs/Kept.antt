@@ -350,7 +350,7 @@ failing-not16 (x ∷ xs) n h p e = go (x .0) p (failing-not16 xs n)
         true≢false (sym (q .0) ∙ ap not (eq-eqb (refusalNumber (x .1)) 16 (ap refusalNumber z ∙ e)))
 
 -- an access that is refused by no other number has passed the checks
-passes-checks : (x : Call) → ((r : ℕ) → shown (after x .answer) ≡ refused r → r ≡ 16) → firstFailing (checksOf x) ≡ Pass
+pub passes-checks : (x : Call) → ((r : ℕ) → shown (after x .answer) ≡ refused r → r ≡ 16) → firstFailing (checksOf x) ≡ Pass
 unfolding checks
 passes-checks x h = go (firstFailing (checksOf x)) refl
   where
@@ -362,7 +362,7 @@ passes-checks x h = go (firstFailing (checksOf x)) refl
         (conditions-by x ∙ ap (λ y. orElse y (firstHolding (staleCondition x ∷ []))) e ∙ (unfold orElse in refl))))))
 
 -- then 16 is given exactly when its condition holds
-given-16 : (x : Call) → firstFailing (checksOf x) ≡ Pass → (shown (after x .answer) ≡ refused 16) ↔ (refuses16 (x .operation) (x .registers) (x .memory) (x .track) ≡ true)
+pub given-16 : (x : Call) → firstFailing (checksOf x) ≡ Pass → (shown (after x .answer) ≡ refused 16) ↔ (refuses16 (x .operation) (x .registers) (x .memory) (x .track) ≡ true)
 given-16 x p = (λ q. to (refuses16 (x .operation) (x .registers) (x .memory) (x .track)) refl (exactly x 16 .0 q), from)
   where
     first : firstHolding (conditionsOf x) ≡ cond (refuses16 (x .operation) (x .registers) (x .memory) (x .track)) (some 16) none

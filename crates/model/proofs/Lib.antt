@@ -19,3 +19,4 @@ pub mod Refuted
 pub mod CaseTools
 pub mod PaperCases
 pub mod WiderCases
+pub mod Witness

@@ -231,7 +231,7 @@ unfolding last chipSeen
 last-chip x [] = refl
 last-chip x (y ∷ ys) = last-chip y ys
 
-chip-ends : (x : Session) → Accepted checker x → (n : ℕ) (first : List Move) (script : ℕ → List Move) →
+pub chip-ends : (x : Session) → Accepted checker x → (n : ℕ) (first : List Move) (script : ℕ → List Move) →
     last (chipStartOf x (suc n) first) (chipRunOf checker x (suc n) first script) .state ≡ plainEnd checker x
 unfolding chipSeen chipStart
 chip-ends x acc n first script =

@@ -2,7 +2,7 @@
 use Prim.Native.Nat.{ℕ, zero, suc, _+_, _*_, _/_, _<_, _≤_}
 use mathlib.Core.Path.{_≡_, refl, sym, ap, ap₂, _∙_, subst}
 use mathlib.Core.Logic.{_⊎_, inl, inr}
-use mathlib.Core.Bool.{Bool, true, false, cond, true≢false}
+use mathlib.Core.Bool.{Bool, true, false, cond, _&&_, _||_, true≢false}
 use mathlib.Core.Option.{Option, none, some}
 use mathlib.Core.List.{List, [], _∷_, map}
 use native.Mathlib.Decide.{ℕ-discrete}
@@ -13,13 +13,17 @@ use Rattle.tlb.specs.Places.{Within}
 use Rattle.tlb.proofs.PlaceLaws.{within-none, within-dropped}
 use Rattle.model.specs.Limits.{pageSize, rowSize}
 use Rattle.model.specs.Numbers.{Result, ok, fault, refused, shown}
-use Rattle.model.specs.reference.Rules.{Translation, found, failed, State, fresh, aligned, outcome, setRegisters, effect, carriedOut, plainStep, trackWord, Held, Places, heldFor, Move, drop, load, isFree, putIn, move, moves, chipStep, flushPlace, flushes, walk, descriptor, tableWord, section, bits, value, inMemory, conditions, startConditions, Given, among, contexts, refuses7, refuses8, refuses9, refuses10, refuses11, refuses12, refuses13, refuses14, refuses15, refuses16}
+use Rattle.model.specs.reference.Rules.{Translation, found, failed, State, fresh, aligned, outcome, setRegisters, effect, carriedOut, plainStep, trackWord, Held, Places, heldFor, Move, drop, load, isFree, putIn, move, moves, chipStep, flushPlace, flushes, walk, descriptor, tableWord, section, bits, value, inMemory, conditions, startConditions, Given, among, contexts, refuses7, refuses8, refuses9, refuses10, refuses11, refuses12, refuses13, refuses14, refuses15, refuses16, stale}
 use Rattle.model.specs.reference.Runs.{last, Checker, next, checkerRun, isRefused, told, seen, plainRun, Moment, chipStart, chipNext, chipRun, Holds}
-use Rattle.model.specs.step.Machine.{After}
-use Rattle.model.specs.Invisible.{Session, begun, Accepted, checked, toldOf, chipStartOf, chipRunOf, plainEnd, atEnd, alignedAccess, CouldDiffer, Same, Exactly, Invisible}
+use Rattle.model.specs.step.Checks.{isSize, sizeFits}
+use Rattle.model.specs.step.Machine.{After, started, stepped}
+use Rattle.model.specs.Demands.{Call, after}
+use Rattle.model.specs.Invisible.{Session, begun, Accepted, checked, toldOf, chipStartOf, chipRunOf, plainEnd, atEnd, alignedAccess, CouldDiffer, Same, Exactly, Invisible, checker}
 use Rattle.model.specs.Wrong.{SaysStaleAtOnce, Orderly, Copies, AlikeBut, LooksElsewhere}
-use Rattle.model.specs.Types.{Registers, Operation, Kind, Read, Root, Entry}
-use Rattle.model.proofs.Calls.{firstHolding, given-first, none-some}
+use Rattle.model.specs.Types.{Registers, Operation, Kind, Read, Write, Root, Asid, Mode, All as AllSets, Addr, Ctx, AddrCtx, Entry}
+use Rattle.model.proofs.Tests.{and-both, three-or}
+use Rattle.model.proofs.Calls.{firstHolding, given-first, none-some, exactly, start-exactly, track-length, start-track-length, size-passed}
+use Rattle.model.proofs.Kept.{passes-checks, given-16}
 use Rattle.model.proofs.Instance.{stateOf, outcome-page}
 use Rattle.model.proofs.Chips.{held, load-brings}
 use Rattle.model.proofs.ThirdDemand.{holds-within}
@@ -57,7 +61,7 @@ none-differs m x o e y = go (x .operations) e (y .held) (y .other)
   where
     go : (os : List Operation) → os ≡ [] →
         Holds (last (none, fresh (x .image) (x .root)) (plainRun (fresh (x .image) (x .root)) (told m (begun m x) os)) .1 .registers .context) (o .a / pageSize) (y .entry)
-          (last (chipStartOf x (suc (y .places)) (y .first)) (chipRun (chipStartOf x (suc (y .places)) (y .first)) (told m (begun m x) os) (y .script)) .held) →
+        (last (chipStartOf x (suc (y .places)) (y .first)) (chipRun (chipStartOf x (suc (y .places)) (y .first)) (told m (begun m x) os) (y .script)) .held) →
         (outcome (last (none, fresh (x .image) (x .root)) (plainRun (fresh (x .image) (x .root)) (told m (begun m x) os)) .1) (o .a) ≡ found (y .entry) → ⊥) → ⊥
     go [] q h d = unfold told plainRun chipRun last in at h d
       where
@@ -69,10 +73,11 @@ none-differs m x o e y = go (x .operations) e (y .held) (y .other)
 pub no-stale-at-once : (m : Checker) → SaysStaleAtOnce m → Invisible m → ⊥
 no-stale-at-once m w inv =
     none-differs m (w .session) (w .operation) (w .nothingBefore)
-    (inv .exactly .stale (w .session) (w .accepted) (w .operation) (w .access) (λ r q. same-number r (sym (at-start ) ∙ q)) .0 at-start)
+    (inv .exactly .stale (w .session) (w .accepted) (w .operation) (w .access) (λ r q. same-number r (sym (at-start) ∙ q)) .0 at-start)
   where
     same-number : (r : ℕ) → _≡_ {A = Result} (refused 16) (refused r) → r ≡ 16
     same-number r q = cc
+
     at-start : shown (next m (w .operation) (atEnd m (w .session)) .answer) ≡ refused 16
     at-start = subst (λ (os : List Operation). shown (next m (w .operation) (last (begun m (w .session)) (checkerRun m (begun m (w .session)) os)) .answer) ≡ refused 16)
         (sym (w .nothingBefore)) (unfold checkerRun last in w .says16)
@@ -136,7 +141,7 @@ tailOf (y ∷ ys) = ys
 abbrev Differs : ℕ → List Move → (ℕ → List Move) → List (Operation × Bool) → Type 0
 Differs root first script l =
     Holds (last {A = Option Result × State} (none, fresh image root) (plainRun (fresh image root) l) .1 .registers .context) (readPage2 .a / pageSize) entry2
-      (last (chipStart 1 (fresh image root) first) (chipRun (chipStart 1 (fresh image root) first) l script) .held)
+    (last (chipStart 1 (fresh image root) first) (chipRun (chipStart 1 (fresh image root) first) l script) .held)
     × (outcome (last {A = Option Result × State} (none, fresh image root) (plainRun (fresh image root) l) .1) (readPage2 .a) ≡ found entry2 → ⊥)
 
 unfolded-found : (n : ℕ) (e : Entry) → failed n ≡ found e → ⊥
@@ -194,6 +199,7 @@ module _ (m : Checker) (ord : Orderly m) (inv : Invisible m) where
       here =
           ap (λ (s : State). firstHolding (conditions (toRoot a) (s .registers) (s .memory) (x .track))) (h .state)
           ∙ (unfold at in free (x .track) (h .long-track))
+
       go : (r : ℕ) → shown (next m (toRoot a) x .answer) ≡ refused r → Dec (r ≡ 16) → ⊥
       go r q (yes e) = true≢false (sym (ord .only16 (toRoot a) (x .registers) (x .memory) (x .track) (q ∙ ap refused e)) ∙ (unfold alignedAccess among toRoot in refl))
       go r q (no e) = no-given _ r here (ord .steps (toRoot a) (x .registers) (x .memory) (x .track) r q e)
@@ -206,9 +212,11 @@ module _ (m : Checker) (ord : Orderly m) (inv : Invisible m) where
       here =
           ap (λ (s : State). firstHolding (conditions readPage2 (s .registers) (s .memory) (x .track))) (h .state)
           ∙ (unfold at in read-free (x .track) (h .long-track))
+
       by : (b : Bool) → cond b (some 16) none ≡ some r → r ≡ 16
       by true e = cc
       by false e = absurd (none-some r e)
+
       go : Dec (r ≡ 16) → r ≡ 16
       go (yes e) = e
       go (no e) = by (refuses16 readPage2 (at 0 .registers) image (x .track)) (sym here ∙ given-first _ r (ord .steps readPage2 (x .registers) (x .memory) (x .track) r q e))
@@ -281,10 +289,10 @@ module _ (m : Checker) (ord : Orderly m) (inv : Invisible m) where
     alike = record {
       lengths = after-one .long-track ∙ sym (begins 0 (start-free track0 long .0) .long-track);
       others = λ c p n q.
-        subst (λ (s : State). (c ≡ s .registers .context → ⊥) → trackWord (next m (toRoot 0) (m .start image track0 0x80) .track) c p ≡ trackWord (m .start image track0 0x80 .track) c p)
+          subst (λ (s : State). (c ≡ s .registers .context → ⊥) → trackWord (next m (toRoot 0) (m .start image track0 0x80) .track) c p ≡ trackWord (m .start image track0 0x80 .track) c p)
           (at-begin .state) (λ k. unfold toRoot in w .rootOthers 0 _ _ _ c p k q) (unfold at in n)
-        ∙ w .startOthers image track0 0x80 c p n q
-        ∙ sym (w .startOthers image track0 0 c p n q);
+          ∙ w .startOthers image track0 0x80 c p n q
+          ∙ sym (w .startOthers image track0 0 c p n q);
     }
 
     refuted : ⊥
@@ -358,3 +366,65 @@ module _ (m : Checker) (ord : Orderly m) (inv : Invisible m) where
 
   pub no-copying : Copies m → ⊥
   no-copying w = copy-refuted w
+
+-- ── The checker of this project is orderly, and so is one made of it that copies the track ──
+
+named-size : (k : Kind) (b : ℕ) → among k (Read ∷ Write ∷ []) ≡ true → sizeFits k b ≡ true → (eqb b 1 || eqb b 2 || eqb b 4) ≡ true
+unfolding among sizeFits
+named-size Read b p s = sym (three-or (eqb b 1) (eqb b 2) (eqb b 4)) ∙ s
+named-size Write b p s = sym (three-or (eqb b 1) (eqb b 2) (eqb b 4)) ∙ s
+named-size Root b p s = absurd (true≢false (sym p))
+named-size Asid b p s = absurd (true≢false (sym p))
+named-size Mode b p s = absurd (true≢false (sym p))
+named-size AllSets b p s = absurd (true≢false (sym p))
+named-size Addr b p s = absurd (true≢false (sym p))
+named-size Ctx b p s = absurd (true≢false (sym p))
+named-size AddrCtx b p s = absurd (true≢false (sym p))
+
+aligned-16 : (x : Call) → shown (after x .answer) ≡ refused 16 → alignedAccess (x .operation) ≡ true
+unfolding refuses16 alignedAccess
+aligned-16 x q =
+    let pass = passes-checks x (λ r e. same r (sym q ∙ e)) in
+    let all = and-both _ (stale (x .track) (x .registers .context) (x .operation .a / pageSize) (walk (x .memory) (x .registers .root) (x .operation .a))) (given-16 x pass .0 q) in
+    let kinds = and-both (among (x .operation .kind) (Read ∷ Write ∷ [])) (aligned (x .operation .a) (x .operation .b)) (all .0) in
+    ap₂ _&&_ (ap₂ _&&_ (kinds .0) (named-size (x .operation .kind) (x .operation .b) (kinds .0) (size-passed x pass))) (kinds .1)
+  where
+    same : (r : ℕ) → _≡_ {A = Result} (refused 16) (refused r) → r ≡ 16
+    same r e = cc
+
+abbrev call : Operation → Registers → List ℕ → List ℕ → Call
+call o g i t = record { operation = o; registers = g; memory = i; track = t }
+
+pub orderly : Orderly checker
+orderly = record {
+  starts = λ i t root r q. start-exactly i t root r .0 q;
+  steps = λ o g i t r q n. exactly (call o g i t) r .0 q;
+  only16 = λ o g i t q. aligned-16 (call o g i t) q;
+  startLength = start-track-length;
+  stepLength = λ o g i t. track-length (call o g i t);
+}
+
+copyingStep : Operation → Registers → List ℕ → List ℕ → After
+copyingStep o g i t = record {
+  answer = stepped o g i t .answer;
+  registers = stepped o g i t .registers;
+  memory = stepped o g i t .memory;
+  track = t;
+}
+
+pub copying : Checker
+copying = record { start = started; step = copyingStep }
+
+copying-orderly : Orderly copying
+unfolding copying copyingStep
+copying-orderly = record {
+  starts = orderly .starts;
+  steps = orderly .steps;
+  only16 = orderly .only16;
+  startLength = start-track-length;
+  stepLength = λ o g i t. refl;
+}
+
+pub copying-refuted : Invisible copying → ⊥
+unfolding copying copyingStep
+copying-refuted inv = no-copying copying copying-orderly inv (λ o g i t. refl)

@@ -43,4 +43,4 @@ pub record LooksElsewhere (m : Checker) : Type 0 where
   pub blind : (o : Operation) (g : Registers) (i t u : List ℕ) → AlikeBut (g .context) t u → m .step o g i t .answer ≡ m .step o g i u .answer
   pub startOthers : (i t : List ℕ) (root c p : ℕ) → (c ≡ 0 → ⊥) → p < rowSize → trackWord (m .start i t root .track) c p ≡ 0
   pub rootOthers : (a : ℕ) (g : Registers) (i t : List ℕ) (c p : ℕ) → (c ≡ g .context → ⊥) → p < rowSize →
-    trackWord (m .step (record { kind = Root; a = a; b = 0; c = 0 }) g i t .track) c p ≡ trackWord t c p
+      trackWord (m .step (record { kind = Root; a = a; b = 0; c = 0 }) g i t .track) c p ≡ trackWord t c p
