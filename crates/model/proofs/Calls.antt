@@ -103,20 +103,8 @@ step-same x = go (firstFailing (checksOf x)) refl ∙ ap (λ y. answerBy y (x .o
         visible (checked y (x .operation) (x .registers) (x .memory) (x .track)) ≡ answerBy (orElse y (firstHolding (staleCondition x ∷ []))) (x .operation) (before x)
     go (Refuse n) e = unfold orElse answerBy in refl
     go Pass e =
-        operate-same k a b c (x .registers) (x .memory) (x .track) (size-passed x e)
+        operate-same (x .operation) (x .registers) (x .memory) (x .track) (size-passed x e)
         ∙ unfold orElse answerBy firstHolding in sym (push (λ y. answerBy y (x .operation) (before x)) (refuses16 (x .operation) (x .registers) (x .memory) (x .track)) (some 16) none)
-      where
-        k : Kind
-        k = x .operation .kind
-
-        a : ℕ
-        a = x .operation .a
-
-        b : ℕ
-        b = x .operation .b
-
-        c : ℕ
-        c = x .operation .c
 
 -- ── The plain machine refuses nothing ──
 

@@ -113,16 +113,20 @@ access-whole writes o r m t h =
 
 -- ── Every operation ──
 
-pub operate-same : (k : Kind) (a b c : ℕ) (r : Registers) (m t : List ℕ) → sizeFits k b ≡ true →
+by-kind : (k : Kind) (a b c : ℕ) (r : Registers) (m t : List ℕ) → sizeFits k b ≡ true →
     visible (operate k (record { kind = k; a = a; b = b; c = c }) r m t)
     ≡ cond (refuses16 (record { kind = k; a = a; b = b; c = c }) r m t) (refused 16, state r m) (carriedOut (record { kind = k; a = a; b = b; c = c }) (state r m))
 unfolding operate carriedOut effect setRegisters refuses16 among sizeFits readStep writeStep
-operate-same Read a b c r m t h = read-taken (accessAt r m t false (sizeOf b) a) (sizeOf b) c r m t ∙ access-whole false (record { kind = Read; a = a; b = b; c = c }) r m t h
-operate-same Write a b c r m t h = write-taken (accessAt r m t true (sizeOf b) a) (sizeOf b) c r m t ∙ access-whole true (record { kind = Write; a = a; b = b; c = c }) r m t h
-operate-same Root a b c r m t h = refl
-operate-same Asid a b c r m t h = refl
-operate-same Mode a b c r m t h = refl
-operate-same All a b c r m t h = refl
-operate-same Addr a b c r m t h = refl
-operate-same Ctx a b c r m t h = refl
-operate-same AddrCtx a b c r m t h = refl
+by-kind Read a b c r m t h = read-taken (accessAt r m t false (sizeOf b) a) (sizeOf b) c r m t ∙ access-whole false (record { kind = Read; a = a; b = b; c = c }) r m t h
+by-kind Write a b c r m t h = write-taken (accessAt r m t true (sizeOf b) a) (sizeOf b) c r m t ∙ access-whole true (record { kind = Write; a = a; b = b; c = c }) r m t h
+by-kind Root a b c r m t h = refl
+by-kind Asid a b c r m t h = refl
+by-kind Mode a b c r m t h = refl
+by-kind All a b c r m t h = refl
+by-kind Addr a b c r m t h = refl
+by-kind Ctx a b c r m t h = refl
+by-kind AddrCtx a b c r m t h = refl
+
+pub operate-same : (o : Operation) (r : Registers) (m t : List ℕ) → sizeFits (o .kind) (o .b) ≡ true →
+    visible (operate (o .kind) o r m t) ≡ cond (refuses16 o r m t) (refused 16, state r m) (carriedOut o (state r m))
+operate-same o r m t h = by-kind (o .kind) (o .a) (o .b) (o .c) r m t h
