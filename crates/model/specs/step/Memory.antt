@@ -39,3 +39,7 @@ abbrev pub storedAt : Size → List ℕ → ℕ → ℕ → List ℕ
 storedAt One m at v = set m at (v % 256)
 storedAt Two m at v = halfStored m at v
 storedAt Four m at v = halfStored (halfStored m at v) (at + 2) (v / 65536)
+
+-- memory after a store that may not lie in it: as it was, where it does not
+unfoldable pub writtenAt : Size → List ℕ → ℕ → ℕ → List ℕ
+writtenAt size m at v = cond (within size m at) (storedAt size m at v) m
