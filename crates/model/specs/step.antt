@@ -6,3 +6,4 @@ pub mod Rows
 pub mod Track
 pub mod Checks
 pub mod Machine
+pub mod WalkAnswer

@@ -2,7 +2,8 @@
 ghost use mathlib.Core.Path.{_≡_};
 ghost use Prim.Native.Nat.{_<_};
 ghost use Rattle.model.specs.Numbers.{faultNumber};
-ghost use Rattle.model.specs.step.Walk.{sectionEntry, largeEntry, smallEntry, firstOf, firstAt, secondOf, secondAt, walkPage, outcomeNumber, walkAnswer};
+ghost use Rattle.model.specs.step.Walk.{sectionEntry, largeEntry, smallEntry, firstOf, firstAt, secondOf, secondAt, walkPage};
+ghost use Rattle.model.specs.step.WalkAnswer.{outcomeNumber, walkAnswer};
 ghost use Rattle.model.specs.step.Track.{entryWord};
 ghost use Rattle.model.specs.step.Checks.{memoryFits, rootFits};
 use memory::load;
@@ -13,6 +14,7 @@ use model::Loaded;
 use model::Outcome;
 use model::Size;
 
+// The number of a fault.
 pub fn fault_number(f: Fault) -> u32
     ensures { λ r. ⌜ (r ≡ faultNumber f) × (r < 16) ⌝ }
 {
@@ -37,6 +39,7 @@ pub fn section_entry(w: u32, page: usize) -> Entry
     }
 }
 
+// The entry of a large page's page.
 pub fn large_entry(w: u32, page: usize) -> Entry
     ensures { λ r. ⌜ r ≡ largeEntry w page ⌝ }
 {
@@ -46,6 +49,7 @@ pub fn large_entry(w: u32, page: usize) -> Entry
     }
 }
 
+// The entry of a small page.
 pub fn small_entry(w: u32) -> Entry
     ensures { λ r. ⌜ r ≡ smallEntry w ⌝ }
 {
@@ -55,6 +59,7 @@ pub fn small_entry(w: u32) -> Entry
     }
 }
 
+// What a level-one word says of a page.
 pub fn first_of(w: u32, page: usize) -> FirstLevel
     ensures { λ r. ⌜ r ≡ firstOf w page ⌝ }
 {
@@ -72,6 +77,7 @@ pub fn first_of(w: u32, page: usize) -> FirstLevel
     FirstLevel::Failing(Fault::FirstUnmapped)
 }
 
+// What a level-two word says of a page.
 pub fn second_of(w: u32, page: usize) -> Outcome
     ensures { λ r. ⌜ r ≡ secondOf w page ⌝ }
 {
@@ -85,6 +91,7 @@ pub fn second_of(w: u32, page: usize) -> Outcome
     Outcome::Mapped(small_entry(w))
 }
 
+// What level one says of a page.
 pub fn level_one(m: &[u8], root: u32, page: usize) -> FirstLevel
     ensures { λ r. ⌜ r ≡ firstAt (now (m .entry)) root page ⌝ }
 {
@@ -95,6 +102,7 @@ pub fn level_one(m: &[u8], root: u32, page: usize) -> FirstLevel
     }
 }
 
+// What the table at `base` says of a page.
 pub fn level_two(m: &[u8], base: u32, page: usize) -> Outcome
     ensures { λ r. ⌜ r ≡ secondAt (now (m .entry)) base page ⌝ }
 {
@@ -105,6 +113,7 @@ pub fn level_two(m: &[u8], base: u32, page: usize) -> Outcome
     }
 }
 
+// The walk of a page.
 pub fn walk(m: &[u8], root: u32, page: usize) -> Outcome
     ensures { λ r. ⌜ r ≡ walkPage (now (m .entry)) root page ⌝ }
 {
@@ -115,14 +124,16 @@ pub fn walk(m: &[u8], root: u32, page: usize) -> Outcome
     }
 }
 
+// The track word of an entry.
 pub fn entry_word(e: Entry) -> u32
     ensures { λ r. ⌜ r ≡ entryWord e ⌝ }
 {
     e.frame % 1048576 * 4096 + e.ap % 8 * 512 + 2
 }
 
-pub fn is_memory_length(n: usize) -> bool
-    ensures { λ r. ⌜ r ≡ memoryLength n ⌝ }
+// Whether n bytes can be a memory.
+pub fn memory_fits(n: usize) -> bool
+    ensures { λ r. ⌜ r ≡ memoryFits n ⌝ }
 {
     let rest = n % 4096;
     if rest == 0 {
@@ -134,6 +145,13 @@ pub fn is_memory_length(n: usize) -> bool
     false
 }
 
+// Whether a root has its alignment.
+pub fn root_fits(root: u32) -> bool
+    ensures { λ r. ⌜ r ≡ rootFits root ⌝ }
+{
+    root % 128 == 0
+}
+
 fn outcome_number(o: Outcome) -> u64
     ensures { λ r. ⌜ r ≡ outcomeNumber o ⌝ }
 {
@@ -143,13 +161,13 @@ fn outcome_number(o: Outcome) -> u64
     }
 }
 
+// The walk of one address: an entry's track word, 0x100000000 plus a fault, or 0x200000000 plus a refusal.
 #[no_mangle]
-pub extern "C" fn rig_walk(image: &[u8], root: u32, address: u32) -> u64
-    ensures { λ r. ⌜ r ≡ rigAnswer (now (image .entry)) root address ⌝ }
+pub extern "C" fn walk_image(image: &[u8], root: u32, address: u32) -> u64
+    ensures { λ r. ⌜ r ≡ walkAnswer (now (image .entry)) root address ⌝ }
 {
-    if is_memory_length(image.len()) {
-        let rest = root % 128;
-        if rest == 0 {
+    if memory_fits(image.len()) {
+        if root_fits(root) {
             if address < 4194304 {
                 return outcome_number(walk(image, root, address as usize / 4096));
             }
