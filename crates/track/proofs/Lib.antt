@@ -1,0 +1,3 @@
+-- Laws of rows and of the stale test.
+pub mod Rows
+pub mod Stale
