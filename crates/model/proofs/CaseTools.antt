@@ -5,7 +5,7 @@ use mathlib.Core.List.{List, [], _∷_}
 use lib.Dec.{eqb}
 use lib.ListN.{replicate}
 use Rattle.model.specs.Numbers.{Result, ok, fault, refused, shown}
-use Rattle.model.specs.step.Memory.{storedAt, within, loadAt}
+use Rattle.model.specs.step.Memory.{storedAt, within, loadAt, writtenAt}
 use Rattle.model.specs.step.Walk.{walkPage, firstAt, firstOf, secondAt, secondOf}
 use Rattle.model.specs.step.Rights.{kernelRights, userRights, rightsOf, permitted}
 use Rattle.model.specs.step.Rows.{inRow, eachRow}
@@ -34,7 +34,7 @@ imageA =
 
 -- an operation with its fields, on what the one before it left; to unfold it is to unfold the whole step, and start
 unfoldable pub next : Kind → ℕ → ℕ → ℕ → After → After
-unfolding within loadAt walkPage firstAt firstOf secondAt secondOf kernelRights userRights rightsOf permitted inRow
+unfolding within loadAt writtenAt walkPage firstAt firstOf secondAt secondOf kernelRights userRights rightsOf permitted inRow
     eachRow isEntry addEntry notePage noteTrack flushAll flushPage flushContext flushPageIn staleWord memoryFits
     trackFits lengthsFit rootFits registersFit sizeFits addressFits valueFits newRootFits contextFits modeFits mayAsk
     checks startChecks firstFailing decided accessAt readStep writeStep operate stepped started

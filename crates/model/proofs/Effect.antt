@@ -9,13 +9,13 @@ use lib.ListN.{length, getD}
 use borrow.Author.Tests.{eqb-true, eqb-false, eq-eqb, ne-eqb}
 use Rattle.model.specs.Limits.{pageSize, rowSize}
 use Rattle.model.specs.Numbers.{Result, ok, fault, refused, shown, faultNumber}
-use Rattle.model.specs.reference.Rules.{Translation, found, failed, inMemory, value, walk, physical, rightOf, allows, State, aligned, touched, translated, access, setRegisters, effect, outcome, carriedOut, trackWord, stale, kept, differs, among, refuses16}
-use Rattle.model.specs.step.Memory.{bytesOf, within, numberAt, storedAt}
+use Rattle.model.specs.reference.Rules.{Translation, found, failed, inMemory, value, stored, walk, physical, rightOf, allows, State, aligned, touched, translated, access, setRegisters, effect, outcome, carriedOut, trackWord, stale, kept, differs, among, refuses16}
+use Rattle.model.specs.step.Memory.{bytesOf, within, loadAt, writtenAt}
 use Rattle.model.specs.step.Walk.{walkPage}
 use Rattle.model.specs.step.Rights.{permitted}
 use Rattle.model.specs.step.Track.{noteTrack, wordAt, staleWord}
 use Rattle.model.specs.step.Checks.{isSize, sizeFits}
-use Rattle.model.specs.step.Machine.{After, sizeOf, physicalOf, granted, decided, accessAt, readFrom, writeTo, readStep, writeStep, operate}
+use Rattle.model.specs.step.Machine.{After, sizeOf, valueOf, physicalOf, granted, decided, accessAt, readFrom, writeTo, readStep, writeStep, operate}
 use Rattle.model.specs.Demands.{visible}
 use Rattle.model.specs.Types.{Registers, Operation, Kind, Read, Write, Root, Asid, Mode, All, Addr, Ctx, AddrCtx, Entry, Alignment, Permission, AccessOutside, Size, One, Two, Four, Outcome, Mapped, Failed, Access, Stale, Fails, Physical}
 use Rattle.model.proofs.Tests.{push}
@@ -32,19 +32,40 @@ state r m = record { memory = m; registers = r }
 taken : Bool → Size → ℕ → State → Access → Result × State
 taken writes size v s Stale = (refused 16, s)
 taken writes size v s (Fails f) = (fault (faultNumber f), s)
-taken writes size v s (Physical p) = touched writes p (bytesOf size) v s
+taken false size v s (Physical p) = (ok (valueOf (loadAt size (s .memory) p)), s)
+taken true size v s (Physical p) = (ok 0, record { memory = writtenAt size (s .memory) p v; registers = s .registers })
 
 read-taken : (x : Access) (size : Size) (v : ℕ) (r : Registers) (m t : List ℕ) → visible (readFrom x size r m t) ≡ taken false size v (state r m) x
-unfolding taken touched
+unfolding taken
 read-taken Stale size v r m t = refl
 read-taken (Fails f) size v r m t = refl
-read-taken (Physical p) size v r m t = λ i. (ok (number-same size m p i), state r m)
+read-taken (Physical p) size v r m t = refl
 
 write-taken : (x : Access) (size : Size) (v : ℕ) (r : Registers) (m t : List ℕ) → visible (writeTo x size v r m t) ≡ taken true size v (state r m) x
-unfolding taken touched
+unfolding taken
 write-taken Stale size v r m t = refl
 write-taken (Fails f) size v r m t = refl
-write-taken (Physical p) size v r m t = λ i. (ok 0, state r (stored-same size m p v i))
+write-taken (Physical p) size v r m t = refl
+
+-- bytes in memory are read and written as the reference does
+number-read : (size : Size) (m : List ℕ) (p : ℕ) → within size m p ≡ true → valueOf (loadAt size m p) ≡ value m p (bytesOf size)
+unfolding loadAt
+number-read size m p h = rw h (number-same size m p)
+
+number-written : (size : Size) (m : List ℕ) (p v : ℕ) → within size m p ≡ true → writtenAt size m p v ≡ stored m p (bytesOf size) v
+unfolding writtenAt
+number-written size m p v h = rw h (stored-same size m p v)
+
+bytes-taken : (writes : Bool) (size : Size) (v : ℕ) (r : Registers) (m : List ℕ) (p : ℕ) → within size m p ≡ true →
+    taken writes size v (state r m) (Physical p) ≡ touched writes p (bytesOf size) v (state r m)
+unfolding taken touched
+bytes-taken true size v r m p h = λ i. (ok 0, state r (number-written size m p v h i))
+bytes-taken false size v r m p h = λ i. (ok (number-read size m p h i), state r m)
+
+-- a choice whose first value matters only where its test holds
+where-true : {A : Type 0} (b : Bool) (x y z : A) → (b ≡ true → x ≡ y) → cond b x z ≡ cond b y z
+where-true true x y z e = e refl
+where-true false x y z e = refl
 
 -- ── An access, its page's outcome given ──
 
@@ -57,6 +78,7 @@ granted-same (Mapped e) writes size a v r m =
     (cond (within size m (physicalOf e a)) (Physical (physicalOf e a)) (Fails AccessOutside)) (Fails Permission)
     ∙ ap (λ y. cond (permitted (e .ap) (r .mode) writes) y (fault 4, state r m))
     (push (taken writes size v (state r m)) (within size m (physicalOf e a)) (Physical (physicalOf e a)) (Fails AccessOutside)
+    ∙ where-true (within size m (physicalOf e a)) _ (touched writes (physicalOf e a) (bytesOf size) v (state r m)) (fault 7, state r m) (bytes-taken writes size v r m (physicalOf e a))
     ∙ ap (λ b. cond b (touched writes (physicalOf e a) (bytesOf size) v (state r m)) (fault 7, state r m)) (within-same size m (physicalOf e a)))
     ∙ ap (λ b. cond b (cond (inMemory m (physicalOf e a) (bytesOf size)) (touched writes (physicalOf e a) (bytesOf size) v (state r m)) (fault 7, state r m)) (fault 4, state r m))
     (rights-same (e .ap) (r .mode) writes)

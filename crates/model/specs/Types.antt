@@ -10,6 +10,7 @@ pub use Rattle.model.specs.declared.Refusal.{Refusal}
 pub use Rattle.model.specs.declared.Refusal.the-variants.{WrongSize, WrongAddress, WrongValue, WrongRoot, WrongContext, WrongMode, WrongLengths, WrongRegisters, UserMode, StalePage}
 pub use Rattle.model.specs.declared.Answer.{Answer}
 pub use Rattle.model.specs.declared.Answer.the-variants.{Done, Faulted, Refused}
+pub use Rattle.model.specs.declared.Returned.{Returned}
 pub use Rattle.model.specs.declared.Size.{Size}
 pub use Rattle.model.specs.declared.Size.the-variants.{One, Two, Four}
 pub use Rattle.model.specs.declared.Loaded.{Loaded}

@@ -1,16 +1,17 @@
 -- Each operation, start, and one step: answer, registers, memory and track.
 use Prim.Native.Nat.{ℕ, _+_, _*_, _/_, _%_}
+use mathlib.Core.Path.{_≡_}
 use mathlib.Core.Bool.{Bool, true, false, cond}
 use mathlib.Core.List.{List}
 use lib.Dec.{eqb}
 use lib.ListN.{length}
 use Rattle.model.specs.Limits.{pageSize}
-use Rattle.model.specs.step.Memory.{bytesOf, within, numberAt, storedAt}
+use Rattle.model.specs.step.Memory.{bytesOf, within, loadAt, writtenAt}
 use Rattle.model.specs.step.Walk.{walkPage}
 use Rattle.model.specs.step.Rights.{permitted}
 use Rattle.model.specs.step.Track.{noteTrack, flushAll, flushPage, flushContext, flushPageIn, wordAt, staleWord}
 use Rattle.model.specs.step.Checks.{checks, startChecks, firstFailing}
-use Rattle.model.specs.Types.{Registers, Operation, Kind, Read, Write, Root, Asid, Mode, All, Addr, Ctx, AddrCtx, Entry, Alignment, Permission, AccessOutside, Refusal, StalePage, Answer, Done, Faulted, Refused, Size, One, Two, Four, Outcome, Mapped, Failed, Check, Pass, Refuse, Access, Stale, Fails, Physical}
+use Rattle.model.specs.Types.{Registers, Returned, Operation, Kind, Read, Write, Root, Asid, Mode, All, Addr, Ctx, AddrCtx, Entry, Alignment, Permission, AccessOutside, Refusal, StalePage, Answer, Done, Faulted, Refused, Size, One, Two, Four, Loaded, Value, Outside, Outcome, Mapped, Failed, Check, Pass, Refuse, Access, Stale, Fails, Physical}
 
 -- What a start or an operation gives: what it returns, and what it leaves in memory and track.
 pub record After : Type 0 where
@@ -18,6 +19,13 @@ pub record After : Type 0 where
   pub registers : Registers
   pub memory : List ℕ
   pub track : List ℕ
+
+-- What code returns, and what it leaves in memory and track, is what an `After` says.
+pub record Gives (y : After) (x : Returned) (m t : List ℕ) : Type 0 where
+  pub answer : x .answer ≡ y .answer
+  pub registers : x .registers ≡ y .registers
+  pub memory : m ≡ y .memory
+  pub track : t ≡ y .track
 
 -- carried out: the track is noted with the registers and the memory left
 abbrev pub carried : Answer → Registers → List ℕ → List ℕ → After
@@ -51,16 +59,21 @@ unfoldable pub accessAt : Registers → List ℕ → List ℕ → Bool → Size 
 accessAt r m t writes size a =
     decided (walkPage m (r .root) (a / pageSize)) (wordAt t (r .context) (a / pageSize)) (r .mode) writes size a m
 
+-- the number that loading found: an access has tested that it lies in memory
+abbrev pub valueOf : Loaded → ℕ
+valueOf (Value v) = v
+valueOf Outside = 0
+
 -- a read and a write, by what the access comes to
 abbrev pub readFrom : Access → Size → Registers → List ℕ → List ℕ → After
 readFrom Stale size r m t = turnedBack StalePage r m t
 readFrom (Fails f) size r m t = carried (Faulted f) r m t
-readFrom (Physical p) size r m t = carried (Done (numberAt size m p)) r m t
+readFrom (Physical p) size r m t = carried (Done (valueOf (loadAt size m p))) r m t
 
 abbrev pub writeTo : Access → Size → ℕ → Registers → List ℕ → List ℕ → After
 writeTo Stale size v r m t = turnedBack StalePage r m t
 writeTo (Fails f) size v r m t = carried (Faulted f) r m t
-writeTo (Physical p) size v r m t = carried (Done 0) r (storedAt size m p v) t
+writeTo (Physical p) size v r m t = carried (Done 0) r (writtenAt size m p v) t
 
 unfoldable pub readStep : ℕ → Size → Registers → List ℕ → List ℕ → After
 readStep a size r m t = readFrom (accessAt r m t false size a) size r m t
