@@ -1,0 +1,63 @@
+-- What tests and matches in the code say of the definitions of checks. Assumes nothing.
+use Prim.Native.Nat.{ℕ, _<_}
+use mathlib.Core.Path.{_≡_, refl, sym, subst, _∙_}
+use mathlib.Core.Bool.{Bool, true, false, not, cond}
+use mathlib.Core.List.{List, [], _∷_}
+use lib.Dec.{T, eqb, ltb}
+use borrow.Author.Tests.{not-true, not-false, lt-ltb}
+use denote.Enum.Declared.{tagOf}
+use mir.Val.{hasKey}
+use types.Run.{OneOf, miss}
+use Rattle.model.proofs.Kind.{the-type}
+use Rattle.model.specs.Limits.{wordLimit}
+use Rattle.model.specs.declared.Kind.{Kind}
+use Rattle.model.specs.declared.Kind.the-variants.{Read, Write, Root, Asid, Mode, All, Addr, Ctx, AddrCtx}
+use Rattle.model.specs.declared.Refusal.{Refusal}
+use Rattle.model.specs.declared.Check.{Check}
+use Rattle.model.specs.declared.Check.the-variants.{Pass, Refuse}
+use Rattle.model.specs.step.Checks.{firstFailing}
+
+-- a check that is passed, and one that is not: t is the answer of the function for the check u
+pub passed : {t u : Bool} {x : Check} (n : Refusal) (xs : List (Bool × Refusal)) → t ≡ u → not t ≡ false → x ≡ firstFailing xs → x ≡ firstFailing ((u, n) ∷ xs)
+unfolding firstFailing
+passed {t} n xs e h p = rw (sym e ∙ not-false t h) p
+
+pub failed : {t u : Bool} (n : Refusal) (xs : List (Bool × Refusal)) → t ≡ u → not t ≡ true → Refuse n ≡ firstFailing ((u, n) ∷ xs)
+unfolding firstFailing
+failed {t} n xs e h = rw (sym e ∙ not-true t h)
+
+-- no check is left
+pub none-left : Pass ≡ firstFailing []
+unfolding firstFailing
+none-left = refl
+
+-- The arm for the other kinds: ks are their places among the variants, and P is shown of each of them.
+abbrev pub When : Bool → Type 0 → Type 0
+When true P = P
+When false P = Unit
+
+one-of : (ks : List ℕ) (x : ℕ) (P : Type 0) (b : Bool) → hasKey ks x ≡ b → When b P → OneOf ks x → P
+one-of ks x P true e w h = w
+one-of ks x P false e w h = absurd (miss ks x (subst (λ (t : Bool). T (not t)) (sym e) tt) h)
+
+abbrev pub Each : List ℕ → (Kind → Type 0) → Type 0
+Each ks P = When (hasKey ks 0) (P Read) × (When (hasKey ks 1) (P Write) × (When (hasKey ks 2) (P Root) × (When (hasKey ks 3) (P Asid) × (When (hasKey ks 4) (P Mode) × (When (hasKey ks 5) (P All) × (When (hasKey ks 6) (P Addr) × (When (hasKey ks 7) (P Ctx) × When (hasKey ks 8) (P AddrCtx))))))))
+
+pub others : (ks : List ℕ) (P : Kind → Type 0) → Each ks P → (k : Kind) → OneOf ks (tagOf the-type k) → P k
+others ks P w Read = one-of ks 0 (P Read) _ refl (w .0)
+others ks P w Write = one-of ks 1 (P Write) _ refl (w .1 .0)
+others ks P w Root = one-of ks 2 (P Root) _ refl (w .1 .1 .0)
+others ks P w Asid = one-of ks 3 (P Asid) _ refl (w .1 .1 .1 .0)
+others ks P w Mode = one-of ks 4 (P Mode) _ refl (w .1 .1 .1 .1 .0)
+others ks P w All = one-of ks 5 (P All) _ refl (w .1 .1 .1 .1 .1 .0)
+others ks P w Addr = one-of ks 6 (P Addr) _ refl (w .1 .1 .1 .1 .1 .1 .0)
+others ks P w Ctx = one-of ks 7 (P Ctx) _ refl (w .1 .1 .1 .1 .1 .1 .1 .0)
+others ks P w AddrCtx = one-of ks 8 (P AddrCtx) _ refl (w .1 .1 .1 .1 .1 .1 .1 .1)
+
+-- a word fits into four bytes
+same : (b : Bool) → true ≡ cond b true true
+same true = refl
+same false = refl
+
+pub word-fits : (b c : ℕ) → c < wordLimit → true ≡ cond (eqb b 4) (ltb c wordLimit) true
+word-fits b c h = rw (lt-ltb c wordLimit h) (same (eqb b 4))

@@ -1,0 +1,35 @@
+use mathlib.Core.Path.{_≡_, refl, ap, sym, _∙_}
+use mathlib.Core.List.{[], _∷_}
+use mathlib.Core.Bool.{true}
+use Rattle.model.specs.declared.Kind.{Kind}
+use Rattle.model.specs.step.Checks.{newRootFits}
+use Rattle.checks.proofs.Laws.{others}
+use borrow.Author.Needs.{needs}
+use Rattle.checks.proofs.new_root_fits.Statement.{statement}
+use Rattle.checks.proofs.new_root_fits.Tie as tie
+use Rattle.checks.proofs.new_root_fits.Reads as reads
+use Rattle.checks.proofs.new_root_fits.Lts as lts
+use Rattle.walk.proofs.root_fits.Reads as root-fits-reads
+
+-- src/lib.rt:164:23
+enum-told : tie.Need-enum-told
+enum-told c = search needs
+
+-- src/lib.rt:164:23
+root-fits-requires : tie.Need-root-fits-requires
+root-fits-requires c κs = search needs
+
+-- src/lib.rt:160:1
+returns : tie.Need-returns
+unfolding newRootFits
+returns c = let a = c .before .before .before .args in
+    c .root-fits .ensures ∙ sym (ap (λ (k : Kind). newRootFits k (a .a)) (c .before .enum-told .given .1))
+
+-- src/lib.rt:160:1
+returns-2 : tie.Need-returns-2
+unfolding newRootFits
+returns-2 c = let a = c .before .args in
+    others (0 ∷ 1 ∷ 3 ∷ 4 ∷ 5 ∷ 6 ∷ 7 ∷ 8 ∷ []) (λ (k : Kind). true ≡ newRootFits k (a .a)) (refl, (refl, (tt, (refl, (refl, (refl, (refl, (refl, refl)))))))) (a .kind) (c .match .keys2)
+
+pub new-root-fits-spec : {M : Type 1} → statement M
+new-root-fits-spec = tie.close (tie.spec enum-told root-fits-requires returns returns-2)

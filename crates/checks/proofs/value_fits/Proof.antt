@@ -1,0 +1,35 @@
+use mathlib.Core.Path.{_≡_, refl, ap, sym, _∙_}
+use mathlib.Core.List.{[], _∷_}
+use mathlib.Core.Bool.{true}
+use Rattle.model.specs.declared.Kind.{Kind}
+use Rattle.model.specs.step.Checks.{valueFits}
+use Rattle.checks.proofs.Laws.{others}
+use borrow.Author.Needs.{needs}
+use Rattle.checks.proofs.value_fits.Statement.{statement}
+use Rattle.checks.proofs.value_fits.Tie as tie
+use Rattle.checks.proofs.value_fits.Reads as reads
+use Rattle.checks.proofs.value_fits.Lts as lts
+use Rattle.checks.proofs.fits_size.Reads as fits-size-reads
+
+-- src/lib.rt:154:24
+enum-told : tie.Need-enum-told
+enum-told c = search needs
+
+-- src/lib.rt:154:24
+fits-size-requires : tie.Need-fits-size-requires
+fits-size-requires c κs = search needs
+
+-- src/lib.rt:150:1
+returns : tie.Need-returns
+unfolding valueFits
+returns c = let a = c .before .before .before .args in
+    c .fits-size .ensures ∙ sym (ap (λ (k : Kind). valueFits k (a .b) (a .c)) (c .before .enum-told .given .1))
+
+-- src/lib.rt:150:1
+returns-2 : tie.Need-returns-2
+unfolding valueFits
+returns-2 c = let a = c .before .args in
+    others (0 ∷ 2 ∷ 3 ∷ 4 ∷ 5 ∷ 6 ∷ 7 ∷ 8 ∷ []) (λ (k : Kind). true ≡ valueFits k (a .b) (a .c)) (refl, (tt, (refl, (refl, (refl, (refl, (refl, (refl, refl)))))))) (a .kind) (c .match .keys2)
+
+pub value-fits-spec : {M : Type 1} → statement M
+value-fits-spec = tie.close (tie.spec enum-told fits-size-requires returns returns-2)

@@ -1,0 +1,2 @@
+-- Laws of accesses.
+pub mod Laws
