@@ -1,5 +1,7 @@
 // The machine: start, and one operation. Registers go by value; memory and track are lent.
 ghost use mathlib.Core.Path.{_≡_};
+ghost use Prim.Native.Nat.{_<_};
+ghost use Rattle.model.specs.Numbers.{refusalNumber};
 ghost use Rattle.model.specs.step.Machine.{Gives, carried, sizeOf, granted, decided, accessAt, valueOf, readFrom, writeTo, readStep, writeStep, operate, checked, stepped, startedBy, started};
 ghost use Rattle.model.specs.step.Memory.{loadAt};
 use model::Access;
@@ -239,5 +241,23 @@ pub fn start(m: &[u8], t: &mut [u32], root: u32) -> Returned
                 t,
             )
         }
+    }
+}
+
+// The number of a refusal.
+pub fn refusal_number(n: Refusal) -> u32
+    ensures { λ r. ⌜ (r ≡ refusalNumber n) × (r < 32) ⌝ }
+{
+    match n {
+        Refusal::WrongSize => 7,
+        Refusal::WrongAddress => 8,
+        Refusal::WrongValue => 9,
+        Refusal::WrongRoot => 10,
+        Refusal::WrongContext => 11,
+        Refusal::WrongMode => 12,
+        Refusal::WrongLengths => 13,
+        Refusal::WrongRegisters => 14,
+        Refusal::UserMode => 15,
+        Refusal::StalePage => 16,
     }
 }

@@ -1,0 +1,2 @@
+-- What the C functions take and give.
+pub mod Words
