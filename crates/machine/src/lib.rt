@@ -2,7 +2,7 @@
 ghost use mathlib.Core.Path.{_≡_};
 ghost use Prim.Native.Nat.{_<_};
 ghost use Rattle.model.specs.Numbers.{refusalNumber};
-ghost use Rattle.model.specs.step.Machine.{Gives, carried, sizeOf, granted, decided, accessAt, valueOf, readFrom, writeTo, readStep, writeStep, operate, checked, stepped, startedBy, started};
+ghost use Rattle.model.specs.step.Machine.{Gives, carried, sizeOf, granted, decided, accessAt, valueOf, readFrom, writeTo, readStep, writeStep, withRoot, withContext, withMode, operate, checked, stepped, startedBy, started};
 ghost use Rattle.model.specs.step.Memory.{loadAt};
 use model::Access;
 use model::Answer;
@@ -143,6 +143,37 @@ fn write(a: u32, size: Size, v: u32, r: Registers, m: &mut [u8], t: &mut [u32]) 
     write_to(x, size, v, r, m, t)
 }
 
+// The registers with another root, another context, another mode.
+fn with_root(r: Registers, a: u32) -> Registers
+    ensures { λ x. ⌜ x ≡ withRoot r a ⌝ }
+{
+    Registers {
+        root: a,
+        context: r.context,
+        mode: r.mode,
+    }
+}
+
+fn with_context(r: Registers, a: u32) -> Registers
+    ensures { λ x. ⌜ x ≡ withContext r a ⌝ }
+{
+    Registers {
+        root: r.root,
+        context: a,
+        mode: r.mode,
+    }
+}
+
+fn with_mode(r: Registers, a: u32) -> Registers
+    ensures { λ x. ⌜ x ≡ withMode r a ⌝ }
+{
+    Registers {
+        root: r.root,
+        context: r.context,
+        mode: a,
+    }
+}
+
 // An operation that has passed the checks.
 fn carry_out(kind: Kind, o: Operation, r: Registers, m: &mut [u8], t: &mut [u32]) -> Returned
     ensures { λ y. ⌜ Gives (operate kind o r (now (m .entry)) (now (t .entry))) y (now (m .exit)) (now (t .exit)) ⌝ }
@@ -150,36 +181,9 @@ fn carry_out(kind: Kind, o: Operation, r: Registers, m: &mut [u8], t: &mut [u32]
     match kind {
         Kind::Read => read(o.a, size_of(o.b), r, m, t),
         Kind::Write => write(o.a, size_of(o.b), o.c, r, m, t),
-        Kind::Root => carry(
-            Answer::Done(0),
-            Registers {
-                root: o.a,
-                context: r.context,
-                mode: r.mode,
-            },
-            m,
-            t,
-        ),
-        Kind::Asid => carry(
-            Answer::Done(0),
-            Registers {
-                root: r.root,
-                context: o.a,
-                mode: r.mode,
-            },
-            m,
-            t,
-        ),
-        Kind::Mode => carry(
-            Answer::Done(0),
-            Registers {
-                root: r.root,
-                context: r.context,
-                mode: o.a,
-            },
-            m,
-            t,
-        ),
+        Kind::Root => carry(Answer::Done(0), with_root(r, o.a), m, t),
+        Kind::Asid => carry(Answer::Done(0), with_context(r, o.a), m, t),
+        Kind::Mode => carry(Answer::Done(0), with_mode(r, o.a), m, t),
         Kind::All => {
             track::flush_all(t);
             carry(Answer::Done(0), r, m, t)

@@ -81,13 +81,23 @@ readStep a size r m t = readFrom (accessAt r m t false size a) size r m t
 unfoldable pub writeStep : ℕ → Size → ℕ → Registers → List ℕ → List ℕ → After
 writeStep a size v r m t = writeTo (accessAt r m t true size a) size v r m t
 
+-- registers with one of them set
+abbrev pub withRoot : Registers → ℕ → Registers
+withRoot r a = record { root = a; context = r .context; mode = r .mode }
+
+abbrev pub withContext : Registers → ℕ → Registers
+withContext r a = record { root = r .root; context = a; mode = r .mode }
+
+abbrev pub withMode : Registers → ℕ → Registers
+withMode r a = record { root = r .root; context = r .context; mode = a }
+
 -- an operation that has passed the checks
 unfoldable pub operate : Kind → Operation → Registers → List ℕ → List ℕ → After
 operate Read o r m t = readStep (o .a) (sizeOf (o .b)) r m t
 operate Write o r m t = writeStep (o .a) (sizeOf (o .b)) (o .c) r m t
-operate Root o r m t = carried (Done 0) (record { root = o .a; context = r .context; mode = r .mode }) m t
-operate Asid o r m t = carried (Done 0) (record { root = r .root; context = o .a; mode = r .mode }) m t
-operate Mode o r m t = carried (Done 0) (record { root = r .root; context = r .context; mode = o .a }) m t
+operate Root o r m t = carried (Done 0) (withRoot r (o .a)) m t
+operate Asid o r m t = carried (Done 0) (withContext r (o .a)) m t
+operate Mode o r m t = carried (Done 0) (withMode r (o .a)) m t
 operate All o r m t = carried (Done 0) r m (flushAll t)
 operate Addr o r m t = carried (Done 0) r m (flushPage (o .a / pageSize) t)
 operate Ctx o r m t = carried (Done 0) r m (flushContext (o .a) t)
