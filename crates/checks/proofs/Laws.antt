@@ -17,6 +17,10 @@ use Rattle.model.specs.declared.Check.{Check}
 use Rattle.model.specs.declared.Check.the-variants.{Pass, Refuse}
 use Rattle.model.specs.step.Checks.{firstFailing}
 
+-- a test of an answer t is a test of what it is equal to
+pub was : {t v : Bool} (u : Bool) → t ≡ u → t ≡ v → u ≡ v
+was u e h = sym e ∙ h
+
 -- a check that is passed, and one that is not: t is the answer of the function for the check u
 pub passed : {t u : Bool} {x : Check} (n : Refusal) (xs : List (Bool × Refusal)) → t ≡ u → not t ≡ false → x ≡ firstFailing xs → x ≡ firstFailing ((u, n) ∷ xs)
 unfolding firstFailing

@@ -1,6 +1,6 @@
 // The checks that stand before an access, one function to each, and what access permissions allow.
 ghost use mathlib.Core.Path.{_≡_};
-ghost use Rattle.model.specs.step.Rights.{kernelRights, userRights, rightsOf, permitted};
+ghost use Rattle.model.specs.step.Rights.{between, kernelRights, userRights, rightsOf, permitted};
 ghost use Rattle.model.specs.step.Checks.{trackFits, lengthsFit, registersFit, isSize, sizeFits, addressFits, fitsSize, valueFits, newRootFits, contextFits, modeFits, mayAsk, checks, startChecks, firstFailing};
 use model::Check;
 use model::Kind;
@@ -10,15 +10,27 @@ use model::Registers;
 use walk::memory_fits;
 use walk::root_fits;
 
+// Whether x is one of low to high.
+fn between(low: u32, high: u32, x: u32) -> bool
+    ensures { λ r. ⌜ r ≡ between low high x ⌝ }
+{
+    if low <= x {
+        return x <= high;
+    }
+    false
+}
+
 // What the kernel may do where an entry has these permissions: 0 nothing, 1 reading, 2 reading and writing.
 pub fn kernel_rights(ap: u32) -> u32
     ensures { λ r. ⌜ r ≡ kernelRights ap ⌝ }
 {
-    match ap {
-        1..=3 => 2,
-        5..=7 => 1,
-        _ => 0,
+    if between(1, 3, ap) {
+        return 2;
     }
+    if between(5, 7, ap) {
+        return 1;
+    }
+    0
 }
 
 // What the user may do.
@@ -31,10 +43,10 @@ pub fn user_rights(ap: u32) -> u32
     if ap == 2 {
         return 1;
     }
-    match ap {
-        6..=7 => 1,
-        _ => 0,
+    if between(6, 7, ap) {
+        return 1;
     }
+    0
 }
 
 // What a mode may do.
@@ -204,33 +216,41 @@ pub fn may_ask(kind: Kind, mode: u32) -> bool
 pub fn check(o: Operation, r: Registers, m: usize, t: usize) -> Check
     ensures { λ x. ⌜ x ≡ firstFailing (checks o r m t) ⌝ }
 {
-    let k = t / 1024;
     let kind = o.kind;
-    if !lengths_fit(m, t) {
+    let lengths = lengths_fit(m, t);
+    let registers = registers_fit(r, t / 1024);
+    let size = size_fits(kind, o.b);
+    let address = address_fits(kind, o.a);
+    let value = value_fits(kind, o.b, o.c);
+    let root = new_root_fits(kind, o.a);
+    let context = context_fits(kind, o.a, o.b, t / 1024);
+    let mode = mode_fits(kind, o.a);
+    let asked = may_ask(kind, r.mode);
+    if !lengths {
         return Check::Refuse(Refusal::WrongLengths);
     }
-    if !registers_fit(r, k) {
+    if !registers {
         return Check::Refuse(Refusal::WrongRegisters);
     }
-    if !size_fits(kind, o.b) {
+    if !size {
         return Check::Refuse(Refusal::WrongSize);
     }
-    if !address_fits(kind, o.a) {
+    if !address {
         return Check::Refuse(Refusal::WrongAddress);
     }
-    if !value_fits(kind, o.b, o.c) {
+    if !value {
         return Check::Refuse(Refusal::WrongValue);
     }
-    if !new_root_fits(kind, o.a) {
+    if !root {
         return Check::Refuse(Refusal::WrongRoot);
     }
-    if !context_fits(kind, o.a, o.b, k) {
+    if !context {
         return Check::Refuse(Refusal::WrongContext);
     }
-    if !mode_fits(kind, o.a) {
+    if !mode {
         return Check::Refuse(Refusal::WrongMode);
     }
-    if !may_ask(kind, r.mode) {
+    if !asked {
         return Check::Refuse(Refusal::UserMode);
     }
     Check::Pass
@@ -243,8 +263,8 @@ pub fn check_start(m: usize, t: usize, root: u32) -> Check
     if !lengths_fit(m, t) {
         return Check::Refuse(Refusal::WrongLengths);
     }
-    if !root_fits(root) {
-        return Check::Refuse(Refusal::WrongRoot);
+    if root_fits(root) {
+        return Check::Pass;
     }
-    Check::Pass
+    Check::Refuse(Refusal::WrongRoot)
 }

@@ -10,47 +10,38 @@ use Rattle.checks.proofs.address_fits.Tie as tie
 use Rattle.checks.proofs.address_fits.Reads as reads
 use Rattle.checks.proofs.address_fits.Lts as lts
 
--- src/lib.rt:141:23
 enum-told : tie.Need-enum-told
 enum-told c = search needs
 
--- src/lib.rt:142:24
 enum-told-2 : tie.Need-enum-told-2
 enum-told-2 c = search needs
 
--- src/lib.rt:143:23
 enum-told-3 : tie.Need-enum-told-3
 enum-told-3 c = search needs
 
--- src/lib.rt:144:26
 enum-told-4 : tie.Need-enum-told-4
 enum-told-4 c = search needs
 
--- src/lib.rt:137:1
 returns : tie.Need-returns
 unfolding addressFits
 returns c = let a = c .before .before .args in
     sym (ap (λ (k : Kind). addressFits k (a .a)) (c .enum-told .given .1))
 
--- src/lib.rt:137:1
 returns-2 : tie.Need-returns-2
 unfolding addressFits
 returns-2 c = let a = c .before .before .args in
     sym (ap (λ (k : Kind). addressFits k (a .a)) (c .enum-told2 .given .1))
 
--- src/lib.rt:137:1
 returns-3 : tie.Need-returns-3
 unfolding addressFits
 returns-3 c = let a = c .before .before .args in
     sym (ap (λ (k : Kind). addressFits k (a .a)) (c .enum-told3 .given .1))
 
--- src/lib.rt:137:1
 returns-4 : tie.Need-returns-4
 unfolding addressFits
 returns-4 c = let a = c .before .before .args in
     sym (ap (λ (k : Kind). addressFits k (a .a)) (c .enum-told4 .given .1))
 
--- src/lib.rt:137:1
 returns-5 : tie.Need-returns-5
 unfolding addressFits
 returns-5 c = let a = c .before .args in

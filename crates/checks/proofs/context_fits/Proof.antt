@@ -10,37 +10,30 @@ use Rattle.checks.proofs.context_fits.Tie as tie
 use Rattle.checks.proofs.context_fits.Reads as reads
 use Rattle.checks.proofs.context_fits.Lts as lts
 
--- src/lib.rt:174:24
 enum-told : tie.Need-enum-told
 enum-told c = search needs
 
--- src/lib.rt:175:23
 enum-told-2 : tie.Need-enum-told-2
 enum-told-2 c = search needs
 
--- src/lib.rt:176:27
 enum-told-3 : tie.Need-enum-told-3
 enum-told-3 c = search needs
 
--- src/lib.rt:170:1
 returns : tie.Need-returns
 unfolding contextFits
 returns c = let a = c .before .before .args in
     sym (ap (λ (k : Kind). contextFits k (a .a) (a .b) (a .k)) (c .enum-told .given .1))
 
--- src/lib.rt:170:1
 returns-2 : tie.Need-returns-2
 unfolding contextFits
 returns-2 c = let a = c .before .before .args in
     sym (ap (λ (k : Kind). contextFits k (a .a) (a .b) (a .k)) (c .enum-told2 .given .1))
 
--- src/lib.rt:170:1
 returns-3 : tie.Need-returns-3
 unfolding contextFits
 returns-3 c = let a = c .before .before .args in
     sym (ap (λ (k : Kind). contextFits k (a .a) (a .b) (a .k)) (c .enum-told3 .given .1))
 
--- src/lib.rt:170:1
 returns-4 : tie.Need-returns-4
 unfolding contextFits
 returns-4 c = let a = c .before .args in

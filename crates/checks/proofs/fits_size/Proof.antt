@@ -6,15 +6,12 @@ use Rattle.checks.proofs.fits_size.Tie as tie
 use Rattle.checks.proofs.fits_size.Reads as reads
 use Rattle.checks.proofs.fits_size.Lts as lts
 
--- src/lib.rt:117:9
 returns : tie.Need-returns
 returns c = simp (eq-eqb _ _ (c .if1 .taken))
 
--- src/lib.rt:120:9
 returns-2 : tie.Need-returns-2
 returns-2 c = simp (ne-eqb _ _ (c .before .if1 .left), eq-eqb _ _ (c .if2 .taken))
 
--- src/lib.rt:113:1
 returns-3 : tie.Need-returns-3
 returns-3 c = let a = c .before .before .args in
     simp (ne-eqb _ _ (c .before .if1 .left), ne-eqb _ _ (c .if2 .left)) (word-fits (a .b) (a .c) (omega arith))

@@ -8,21 +8,17 @@ use Rattle.checks.proofs.lengths_fit.Lts as lts
 use Rattle.checks.proofs.track_fits.Reads as track-fits-reads
 use Rattle.walk.proofs.memory_fits.Reads as memory-fits-reads
 
--- src/lib.rt:79:8
 memory-fits-requires : tie.Need-memory-fits-requires
 memory-fits-requires c κs = search needs
 
--- src/lib.rt:80:9
 track-fits-requires : tie.Need-track-fits-requires
 track-fits-requires c κs = search needs
 
--- src/lib.rt:80:9
 returns : tie.Need-returns
 unfolding lengthsFit
 returns c = let t = c .before in
     simp (sym (t .before .memory-fits .ensures) ∙ t .if1 .taken) (c .track-fits .ensures)
 
--- src/lib.rt:76:1
 returns-2 : tie.Need-returns-2
 unfolding lengthsFit
 returns-2 c = simp (sym (c .before .memory-fits .ensures) ∙ c .if1 .left)

@@ -10,37 +10,30 @@ use Rattle.checks.proofs.may_ask.Tie as tie
 use Rattle.checks.proofs.may_ask.Reads as reads
 use Rattle.checks.proofs.may_ask.Lts as lts
 
--- src/lib.rt:196:23
 enum-told : tie.Need-enum-told
 enum-told c = search needs
 
--- src/lib.rt:197:24
 enum-told-2 : tie.Need-enum-told-2
 enum-told-2 c = search needs
 
--- src/lib.rt:198:23
 enum-told-3 : tie.Need-enum-told-3
 enum-told-3 c = search needs
 
--- src/lib.rt:192:1
 returns : tie.Need-returns
 unfolding mayAsk
 returns c = let a = c .before .before .args in
     sym (ap (λ (k : Kind). mayAsk k (a .mode)) (c .enum-told .given .1))
 
--- src/lib.rt:192:1
 returns-2 : tie.Need-returns-2
 unfolding mayAsk
 returns-2 c = let a = c .before .before .args in
     sym (ap (λ (k : Kind). mayAsk k (a .mode)) (c .enum-told2 .given .1))
 
--- src/lib.rt:192:1
 returns-3 : tie.Need-returns-3
 unfolding mayAsk
 returns-3 c = let a = c .before .before .args in
     sym (ap (λ (k : Kind). mayAsk k (a .mode)) (c .enum-told3 .given .1))
 
--- src/lib.rt:192:1
 returns-4 : tie.Need-returns-4
 unfolding mayAsk
 returns-4 c = let a = c .before .args in

@@ -10,17 +10,14 @@ use Rattle.checks.proofs.mode_fits.Tie as tie
 use Rattle.checks.proofs.mode_fits.Reads as reads
 use Rattle.checks.proofs.mode_fits.Lts as lts
 
--- src/lib.rt:186:23
 enum-told : tie.Need-enum-told
 enum-told c = search needs
 
--- src/lib.rt:182:1
 returns : tie.Need-returns
 unfolding modeFits
 returns c = let a = c .before .before .args in
     sym (ap (λ (k : Kind). modeFits k (a .a)) (c .enum-told .given .1))
 
--- src/lib.rt:182:1
 returns-2 : tie.Need-returns-2
 unfolding modeFits
 returns-2 c = let a = c .before .args in

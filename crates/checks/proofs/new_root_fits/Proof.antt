@@ -11,21 +11,17 @@ use Rattle.checks.proofs.new_root_fits.Reads as reads
 use Rattle.checks.proofs.new_root_fits.Lts as lts
 use Rattle.walk.proofs.root_fits.Reads as root-fits-reads
 
--- src/lib.rt:164:23
 enum-told : tie.Need-enum-told
 enum-told c = search needs
 
--- src/lib.rt:164:23
 root-fits-requires : tie.Need-root-fits-requires
 root-fits-requires c κs = search needs
 
--- src/lib.rt:160:1
 returns : tie.Need-returns
 unfolding newRootFits
 returns c = let a = c .before .before .before .args in
     c .root-fits .ensures ∙ sym (ap (λ (k : Kind). newRootFits k (a .a)) (c .before .enum-told .given .1))
 
--- src/lib.rt:160:1
 returns-2 : tie.Need-returns-2
 unfolding newRootFits
 returns-2 c = let a = c .before .args in

@@ -8,16 +8,13 @@ use Rattle.checks.proofs.permitted.Reads as reads
 use Rattle.checks.proofs.permitted.Lts as lts
 use Rattle.checks.proofs.rights_of.Reads as rights-of-reads
 
--- src/lib.rt:54:9
 rights-of-requires : tie.Need-rights-of-requires
 rights-of-requires c κs = search needs
 
--- src/lib.rt:56:9
 returns : tie.Need-returns
 unfolding permitted
 returns c = simp (c .if1 .taken) (ap (leb 2) (c .before .rights-of .ensures))
 
--- src/lib.rt:51:1
 returns-2 : tie.Need-returns-2
 unfolding permitted
 returns-2 c = simp (c .if1 .left) (ap (leb 1) (c .before .rights-of .ensures))

@@ -8,27 +8,22 @@ use Rattle.checks.proofs.registers_fit.Reads as reads
 use Rattle.checks.proofs.registers_fit.Lts as lts
 use Rattle.walk.proofs.root_fits.Reads as root-fits-reads
 
--- src/lib.rt:89:19
 cast-context : tie.Need-cast-context
 cast-context c = search needs
 
--- src/lib.rt:90:8
 root-fits-requires : tie.Need-root-fits-requires
 root-fits-requires c κs = search needs
 
--- src/lib.rt:92:13
 returns : tie.Need-returns
 unfolding registersFit
 returns c = let t2 = c .before in let t1 = t2 .before in
     simp (sym (t1 .before .root-fits .ensures) ∙ t1 .if1 .taken, lt-ltb _ _ (t2 .if2 .taken))
 
--- src/lib.rt:94:9
 returns-2 : tie.Need-returns-2
 unfolding registersFit
 returns-2 c = let t1 = c .before in
     simp (sym (t1 .before .root-fits .ensures) ∙ t1 .if1 .taken, le-ltb _ _ (c .if2 .left))
 
--- src/lib.rt:86:1
 returns-3 : tie.Need-returns-3
 unfolding registersFit
 returns-3 c = simp (sym (c .before .root-fits .ensures) ∙ c .if1 .left)

@@ -11,35 +11,28 @@ use Rattle.checks.proofs.size_fits.Reads as reads
 use Rattle.checks.proofs.size_fits.Lts as lts
 use Rattle.checks.proofs.is_size.Reads as is-size-reads
 
--- src/lib.rt:130:23
 enum-told : tie.Need-enum-told
 enum-told c = search needs
 
--- src/lib.rt:130:23
 is-size-requires : tie.Need-is-size-requires
 is-size-requires c κs = search needs
 
--- src/lib.rt:131:24
 enum-told-2 : tie.Need-enum-told-2
 enum-told-2 c = search needs
 
--- src/lib.rt:131:24
 is-size-requires-2 : tie.Need-is-size-requires-2
 is-size-requires-2 c κs = search needs
 
--- src/lib.rt:126:1
 returns : tie.Need-returns
 unfolding sizeFits
 returns c = let a = c .before .before .before .args in
     c .is-size .ensures ∙ sym (ap (λ (k : Kind). sizeFits k (a .b)) (c .before .enum-told .given .1))
 
--- src/lib.rt:126:1
 returns-2 : tie.Need-returns-2
 unfolding sizeFits
 returns-2 c = let a = c .before .before .before .args in
     c .is-size2 .ensures ∙ sym (ap (λ (k : Kind). sizeFits k (a .b)) (c .before .enum-told2 .given .1))
 
--- src/lib.rt:126:1
 returns-3 : tie.Need-returns-3
 unfolding sizeFits
 returns-3 c = let a = c .before .args in

@@ -5,17 +5,14 @@ use Rattle.checks.proofs.track_fits.Tie as tie
 use Rattle.checks.proofs.track_fits.Reads as reads
 use Rattle.checks.proofs.track_fits.Lts as lts
 
--- src/lib.rt:68:13
 returns : tie.Need-returns
 unfolding trackFits
 returns c = simp (eq-eqb _ _ (c .before .if1 .taken), le-leb _ _ (c .if2 .taken))
 
--- src/lib.rt:70:9
 returns-2 : tie.Need-returns-2
 unfolding trackFits
 returns-2 c = simp (eq-eqb _ _ (c .before .if1 .taken), lt-leb _ _ (c .if2 .left))
 
--- src/lib.rt:62:1
 returns-3 : tie.Need-returns-3
 unfolding trackFits
 returns-3 c = simp (ne-eqb _ _ (c .if1 .left))

@@ -11,21 +11,17 @@ use Rattle.checks.proofs.value_fits.Reads as reads
 use Rattle.checks.proofs.value_fits.Lts as lts
 use Rattle.checks.proofs.fits_size.Reads as fits-size-reads
 
--- src/lib.rt:154:24
 enum-told : tie.Need-enum-told
 enum-told c = search needs
 
--- src/lib.rt:154:24
 fits-size-requires : tie.Need-fits-size-requires
 fits-size-requires c κs = search needs
 
--- src/lib.rt:150:1
 returns : tie.Need-returns
 unfolding valueFits
 returns c = let a = c .before .before .before .args in
     c .fits-size .ensures ∙ sym (ap (λ (k : Kind). valueFits k (a .b) (a .c)) (c .before .enum-told .given .1))
 
--- src/lib.rt:150:1
 returns-2 : tie.Need-returns-2
 unfolding valueFits
 returns-2 c = let a = c .before .args in
