@@ -1,25 +1,20 @@
 -- What tests and matches in the code say of the definitions of checks. Assumes nothing.
-use Prim.Native.Nat.{ℕ, _<_}
+use Prim.Native.Nat.{ℕ}
 use mathlib.Core.Path.{_≡_, refl, sym, subst, _∙_}
-use mathlib.Core.Bool.{Bool, true, false, not, cond}
+use mathlib.Core.Bool.{Bool, true, false, not}
 use mathlib.Core.List.{List, [], _∷_}
-use lib.Dec.{T, eqb, ltb}
-use borrow.Author.Tests.{not-true, not-false, lt-ltb}
+use lib.Dec.{T}
+use borrow.Author.Tests.{not-true, not-false}
 use denote.Enum.Declared.{tagOf}
 use mir.Val.{hasKey}
 use types.Run.{OneOf, miss}
 use Rattle.model.proofs.Kind.{the-type}
-use Rattle.model.specs.Limits.{wordLimit}
 use Rattle.model.specs.declared.Kind.{Kind}
 use Rattle.model.specs.declared.Kind.the-variants.{Read, Write, Root, Asid, Mode, All, Addr, Ctx, AddrCtx}
 use Rattle.model.specs.declared.Refusal.{Refusal}
 use Rattle.model.specs.declared.Check.{Check}
 use Rattle.model.specs.declared.Check.the-variants.{Pass, Refuse}
 use Rattle.model.specs.step.Checks.{firstFailing}
-
--- a test of an answer t is a test of what it is equal to
-pub was : {t v : Bool} (u : Bool) → t ≡ u → t ≡ v → u ≡ v
-was u e h = sym e ∙ h
 
 -- a check that is passed, and one that is not: t is the answer of the function for the check u
 pub passed : {t u : Bool} {x : Check} (n : Refusal) (xs : List (Bool × Refusal)) → t ≡ u → not t ≡ false → x ≡ firstFailing xs → x ≡ firstFailing ((u, n) ∷ xs)
@@ -57,11 +52,3 @@ others ks P w All = one-of ks 5 (P All) _ refl (w .1 .1 .1 .1 .1 .0)
 others ks P w Addr = one-of ks 6 (P Addr) _ refl (w .1 .1 .1 .1 .1 .1 .0)
 others ks P w Ctx = one-of ks 7 (P Ctx) _ refl (w .1 .1 .1 .1 .1 .1 .1 .0)
 others ks P w AddrCtx = one-of ks 8 (P AddrCtx) _ refl (w .1 .1 .1 .1 .1 .1 .1 .1)
-
--- a word fits into four bytes
-same : (b : Bool) → true ≡ cond b true true
-same true = refl
-same false = refl
-
-pub word-fits : (b c : ℕ) → c < wordLimit → true ≡ cond (eqb b 4) (ltb c wordLimit) true
-word-fits b c h = rw (lt-ltb c wordLimit h) (same (eqb b 4))

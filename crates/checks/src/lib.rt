@@ -1,138 +1,18 @@
-// The checks that stand before an access, one function to each, and what access permissions allow.
+// The checks that stand before an access, one function to each, and the numbers of refusals.
 ghost use mathlib.Core.Path.{_≡_};
-ghost use Rattle.model.specs.step.Rights.{between, kernelRights, userRights, rightsOf, permitted};
-ghost use Rattle.model.specs.step.Checks.{trackFits, lengthsFit, registersFit, isSize, sizeFits, addressFits, fitsSize, valueFits, newRootFits, contextFits, modeFits, mayAsk, checks, startChecks, firstFailing};
+ghost use Prim.Native.Nat.{_<_};
+ghost use Rattle.model.specs.Numbers.{refusalNumber};
+ghost use Rattle.model.specs.step.Checks.{sizeFits, addressFits, valueFits, newRootFits, contextFits, modeFits, mayAsk, checks, startChecks, firstFailing};
+use limits::fits_size;
+use limits::is_size;
+use limits::lengths_fit;
+use limits::registers_fit;
+use limits::root_fits;
 use model::Check;
 use model::Kind;
 use model::Operation;
 use model::Refusal;
 use model::Registers;
-use walk::memory_fits;
-use walk::root_fits;
-
-// Whether x is one of low to high.
-fn between(low: u32, high: u32, x: u32) -> bool
-    ensures { λ r. ⌜ r ≡ between low high x ⌝ }
-{
-    if low <= x {
-        return x <= high;
-    }
-    false
-}
-
-// What the kernel may do where an entry has these permissions: 0 nothing, 1 reading, 2 reading and writing.
-pub fn kernel_rights(ap: u32) -> u32
-    ensures { λ r. ⌜ r ≡ kernelRights ap ⌝ }
-{
-    if between(1, 3, ap) {
-        return 2;
-    }
-    if between(5, 7, ap) {
-        return 1;
-    }
-    0
-}
-
-// What the user may do.
-pub fn user_rights(ap: u32) -> u32
-    ensures { λ r. ⌜ r ≡ userRights ap ⌝ }
-{
-    if ap == 3 {
-        return 2;
-    }
-    if ap == 2 {
-        return 1;
-    }
-    if between(6, 7, ap) {
-        return 1;
-    }
-    0
-}
-
-// What a mode may do.
-pub fn rights_of(ap: u32, mode: u32) -> u32
-    ensures { λ r. ⌜ r ≡ rightsOf ap mode ⌝ }
-{
-    if mode == 0 {
-        return kernel_rights(ap);
-    }
-    user_rights(ap)
-}
-
-// Whether a mode may write, or read.
-pub fn permitted(ap: u32, mode: u32, writes: bool) -> bool
-    ensures { λ r. ⌜ r ≡ permitted ap mode writes ⌝ }
-{
-    let rights = rights_of(ap, mode);
-    if writes {
-        return 2 <= rights;
-    }
-    1 <= rights
-}
-
-// Whether n words can be a track.
-pub fn track_fits(n: usize) -> bool
-    ensures { λ r. ⌜ r ≡ trackFits n ⌝ }
-{
-    let rest = n % 1024;
-    if rest == 0 {
-        if 1024 <= n {
-            return n <= 262144;
-        }
-        return false;
-    }
-    false
-}
-
-// Whether m bytes can be a memory, and t words a track.
-pub fn lengths_fit(m: usize, t: usize) -> bool
-    ensures { λ r. ⌜ r ≡ lengthsFit m t ⌝ }
-{
-    if memory_fits(m) {
-        return track_fits(t);
-    }
-    false
-}
-
-// Whether registers are in range with k contexts.
-pub fn registers_fit(r: Registers, k: usize) -> bool
-    ensures { λ x. ⌜ x ≡ registersFit r k ⌝ }
-{
-    let context = r.context as usize;
-    if root_fits(r.root) {
-        if context < k {
-            return r.mode <= 1;
-        }
-        return false;
-    }
-    false
-}
-
-// Whether b is a size.
-fn is_size(b: u32) -> bool
-    ensures { λ r. ⌜ r ≡ isSize b ⌝ }
-{
-    if b == 1 {
-        return true;
-    }
-    if b == 2 {
-        return true;
-    }
-    b == 4
-}
-
-// Whether a word fits into b bytes.
-fn fits_size(b: u32, c: u32) -> bool
-    ensures { λ r. ⌜ r ≡ fitsSize b c ⌝ }
-{
-    if b == 1 {
-        return c < 256;
-    }
-    if b == 2 {
-        return c < 65536;
-    }
-    true
-}
 
 // Whether the size of a read or a write is one.
 pub fn size_fits(kind: Kind, b: u32) -> bool
@@ -267,4 +147,22 @@ pub fn check_start(m: usize, t: usize, root: u32) -> Check
         return Check::Pass;
     }
     Check::Refuse(Refusal::WrongRoot)
+}
+
+// The number of a refusal.
+pub fn refusal_number(n: Refusal) -> u32
+    ensures { λ r. ⌜ (r ≡ refusalNumber n) × (r < 32) ⌝ }
+{
+    match n {
+        Refusal::WrongSize => 7,
+        Refusal::WrongAddress => 8,
+        Refusal::WrongValue => 9,
+        Refusal::WrongRoot => 10,
+        Refusal::WrongContext => 11,
+        Refusal::WrongMode => 12,
+        Refusal::WrongLengths => 13,
+        Refusal::WrongRegisters => 14,
+        Refusal::UserMode => 15,
+        Refusal::StalePage => 16,
+    }
 }

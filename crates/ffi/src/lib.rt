@@ -84,7 +84,7 @@ fn answer_number(x: Answer) -> u64
     match x {
         Answer::Done(v) => v as u64,
         Answer::Faulted(f) => 4294967296 + walk::fault_number(f) as u64,
-        Answer::Refused(n) => 8589934592 + machine::refusal_number(n) as u64,
+        Answer::Refused(n) => 8589934592 + checks::refusal_number(n) as u64,
     }
 }
 
@@ -124,11 +124,11 @@ pub extern "C" fn machine_start(m: &[u8], t: &mut [u32], root: u32, r: &mut [u32
     ensures { λ x. ⌜ Left (startCall (now (m .entry)) (now (t .entry)) root (now (r .entry))) x (now (r .exit)) (now (m .entry)) (now (t .exit)) ⌝ }
 {
     if r.len() == 3 {
-        let y = machine::start(m, t, root);
-        let left = y.registers;
+        let begun = machine::start(m, t, root);
+        let left = begun.registers;
         registers_into(r, left);
-        let x = y.answer;
-        return answer_number(x);
+        let told = begun.answer;
+        return answer_number(told);
     }
     12884901888
 }

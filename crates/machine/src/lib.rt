@@ -1,147 +1,16 @@
 // The machine: start, and one operation. Registers go by value; memory and track are lent.
 ghost use mathlib.Core.Path.{_≡_};
-ghost use Prim.Native.Nat.{_<_};
-ghost use Rattle.model.specs.Numbers.{refusalNumber};
-ghost use Rattle.model.specs.step.Machine.{Gives, carried, sizeOf, granted, decided, accessAt, valueOf, readFrom, writeTo, readStep, writeStep, withRoot, withContext, withMode, operate, checked, stepped, startedBy, started};
-ghost use Rattle.model.specs.step.Memory.{loadAt};
-use model::Access;
+ghost use Rattle.model.specs.step.Machine.{Gives, withRoot, withContext, withMode, operate, stepped, started};
+use access::size_of;
 use model::Answer;
 use model::Check;
-use model::Fault;
 use model::Kind;
-use model::Loaded;
 use model::Operation;
-use model::Outcome;
-use model::Refusal;
 use model::Registers;
 use model::Returned;
-use model::Size;
-
-// The size that a field names, where it names one.
-pub fn size_of(b: u32) -> Size
-    ensures { λ r. ⌜ r ≡ sizeOf b ⌝ }
-{
-    if b == 1 {
-        return Size::One;
-    }
-    if b == 2 {
-        return Size::Two;
-    }
-    Size::Four
-}
-
-// An access to a page with this outcome: permission, then the bytes.
-pub fn grant(o: Outcome, mode: u32, writes: bool, size: Size, a: u32, m: &[u8]) -> Access
-    ensures { λ r. ⌜ r ≡ granted o mode writes size a (now (m .entry)) ⌝ }
-{
-    match o {
-        Outcome::Failed(f) => Access::Fails(f),
-        Outcome::Mapped(e) => {
-            if checks::permitted(e.ap, mode, writes) {
-                let at = e.frame as usize * 4096 + a as usize % 4096;
-                if memory::inside(m, at, size) {
-                    return Access::Physical(at);
-                }
-                return Access::Fails(Fault::AccessOutside);
-            }
-            Access::Fails(Fault::Permission)
-        }
-    }
-}
-
-// An access to a page with this outcome and track word.
-pub fn decide(o: Outcome, w: u32, mode: u32, writes: bool, size: Size, a: u32, m: &[u8]) -> Access
-    ensures { λ r. ⌜ r ≡ decided o w mode writes size a (now (m .entry)) ⌝ }
-{
-    let n = memory::bytes(size);
-    let rest = a as usize % n;
-    if rest == 0 {
-        if track::is_stale(w, o) {
-            return Access::Stale;
-        }
-        return grant(o, mode, writes, size, a, m);
-    }
-    Access::Fails(Fault::Alignment)
-}
-
-// What an access comes to.
-pub fn access_at(r: Registers, m: &[u8], t: &[u32], writes: bool, size: Size, a: u32) -> Access
-    ensures { λ x. ⌜ x ≡ accessAt r (now (m .entry)) (now (t .entry)) writes size a ⌝ }
-{
-    let page = a as usize / 4096;
-    let o = walk::walk(m, r.root, page);
-    let w = track::word_at(t, r.context, page);
-    decide(o, w, r.mode, writes, size, a, m)
-}
-
-// The number that loading found.
-fn value_of(x: Loaded) -> u32
-    ensures { λ r. ⌜ r ≡ valueOf x ⌝ }
-{
-    match x {
-        Loaded::Value(v) => v,
-        Loaded::Outside => 0,
-    }
-}
-
-// Carried out: the track is noted.
-fn carry(x: Answer, r: Registers, m: &[u8], t: &mut [u32]) -> Returned
-    ensures { λ y. ⌜ Gives (carried x r (now (m .entry)) (now (t .entry))) y (now (m .entry)) (now (t .exit)) ⌝ }
-{
-    track::note(m, r.root, t, r.context as usize);
-    Returned {
-        answer: x,
-        registers: r,
-    }
-}
-
-// A read, by what its access comes to.
-fn read_from(x: Access, size: Size, r: Registers, m: &[u8], t: &mut [u32]) -> Returned
-    ensures { λ y. ⌜ Gives (readFrom x size r (now (m .entry)) (now (t .entry))) y (now (m .entry)) (now (t .exit)) ⌝ }
-{
-    match x {
-        Access::Stale => Returned {
-            answer: Answer::Refused(Refusal::StalePage),
-            registers: r,
-        },
-        Access::Fails(f) => carry(Answer::Faulted(f), r, m, t),
-        Access::Physical(p) => {
-            let v = value_of(memory::load(m, p, size));
-            carry(Answer::Done(v), r, m, t)
-        }
-    }
-}
-
-// A write, by what its access comes to.
-fn write_to(x: Access, size: Size, v: u32, r: Registers, m: &mut [u8], t: &mut [u32]) -> Returned
-    ensures { λ y. ⌜ Gives (writeTo x size v r (now (m .entry)) (now (t .entry))) y (now (m .exit)) (now (t .exit)) ⌝ }
-{
-    match x {
-        Access::Stale => Returned {
-            answer: Answer::Refused(Refusal::StalePage),
-            registers: r,
-        },
-        Access::Fails(f) => carry(Answer::Faulted(f), r, m, t),
-        Access::Physical(p) => {
-            memory::store(m, p, size, v);
-            carry(Answer::Done(0), r, m, t)
-        }
-    }
-}
-
-fn read(a: u32, size: Size, r: Registers, m: &[u8], t: &mut [u32]) -> Returned
-    ensures { λ y. ⌜ Gives (readStep a size r (now (m .entry)) (now (t .entry))) y (now (m .entry)) (now (t .exit)) ⌝ }
-{
-    let x = access_at(r, m, t, false, size, a);
-    read_from(x, size, r, m, t)
-}
-
-fn write(a: u32, size: Size, v: u32, r: Registers, m: &mut [u8], t: &mut [u32]) -> Returned
-    ensures { λ y. ⌜ Gives (writeStep a size v r (now (m .entry)) (now (t .entry))) y (now (m .exit)) (now (t .exit)) ⌝ }
-{
-    let x = access_at(r, m, t, true, size, a);
-    write_to(x, size, v, r, m, t)
-}
+use transfer::carry;
+use transfer::read;
+use transfer::write;
 
 // The registers with another root, another context, another mode.
 fn with_root(r: Registers, a: u32) -> Registers
@@ -245,23 +114,5 @@ pub fn start(m: &[u8], t: &mut [u32], root: u32) -> Returned
                 t,
             )
         }
-    }
-}
-
-// The number of a refusal.
-pub fn refusal_number(n: Refusal) -> u32
-    ensures { λ r. ⌜ (r ≡ refusalNumber n) × (r < 32) ⌝ }
-{
-    match n {
-        Refusal::WrongSize => 7,
-        Refusal::WrongAddress => 8,
-        Refusal::WrongValue => 9,
-        Refusal::WrongRoot => 10,
-        Refusal::WrongContext => 11,
-        Refusal::WrongMode => 12,
-        Refusal::WrongLengths => 13,
-        Refusal::WrongRegisters => 14,
-        Refusal::UserMode => 15,
-        Refusal::StalePage => 16,
     }
 }

@@ -16,7 +16,3 @@ pub mod Chips
 pub mod ThirdDemand
 pub mod Pinned
 pub mod Refuted
-pub mod CaseTools
-pub mod PaperCases
-pub mod WiderCases
-pub mod Witness

@@ -52,10 +52,10 @@ pub fn note_row(m: &[u8], root: u32, row: &mut [u32])
 pub fn empty_row(row: &mut [u32])
     ensures { λ _. ⌜ now (row .exit) ≡ emptyRow (now (row .entry)) ⌝ }
 {
-    let mut page = 0;
-    while page < row.len() {
-        row[page] = 0;
-        page += 1;
+    let mut p = 0;
+    while p < row.len() {
+        row[p] = 0;
+        p += 1;
     }
 }
 
@@ -84,9 +84,9 @@ pub fn flush_context(track: &mut [u32], context: usize)
     ensures { λ _. ⌜ now (track .exit) ≡ flushContext context (now (track .entry)) ⌝ }
 {
     if context < track.len() / 1024 {
-        let start = context * 1024;
-        let end = start + 1024;
-        empty_row(&mut track[start..end]);
+        let first = context * 1024;
+        let past = first + 1024;
+        empty_row(&mut track[first..past]);
     }
 }
 
@@ -95,9 +95,9 @@ pub fn flush_page_in(track: &mut [u32], context: usize, page: usize)
     ensures { λ _. ⌜ now (track .exit) ≡ flushPageIn context page (now (track .entry)) ⌝ }
 {
     if context < track.len() / 1024 {
-        let start = context * 1024;
-        let end = start + 1024;
-        empty_page(&mut track[start..end], page);
+        let from = context * 1024;
+        let to = from + 1024;
+        empty_page(&mut track[from..to], page);
     }
 }
 

@@ -2,10 +2,13 @@
 ghost use mathlib.Core.Path.{_≡_};
 ghost use Prim.Native.Nat.{_<_};
 ghost use Rattle.model.specs.Numbers.{faultNumber};
-ghost use Rattle.model.specs.step.Walk.{sectionEntry, largeEntry, smallEntry, firstOf, firstAt, secondOf, secondAt, walkPage};
+ghost use Rattle.model.specs.step.Walk.{firstAt, secondAt, walkPage};
 ghost use Rattle.model.specs.step.WalkAnswer.{outcomeNumber, walkAnswer};
 ghost use Rattle.model.specs.step.Track.{entryWord};
-ghost use Rattle.model.specs.step.Checks.{memoryFits, rootFits};
+use descriptor::first_of;
+use descriptor::second_of;
+use limits::memory_fits;
+use limits::root_fits;
 use memory::load;
 use model::Entry;
 use model::Fault;
@@ -27,68 +30,6 @@ pub fn fault_number(f: Fault) -> u32
         Fault::SecondOutside => 6,
         Fault::AccessOutside => 7,
     }
-}
-
-// The entry of a section's page.
-pub fn section_entry(w: u32, page: usize) -> Entry
-    ensures { λ r. ⌜ r ≡ sectionEntry w page ⌝ }
-{
-    Entry {
-        frame: w / 1048576 % 4096 * 256 + (page % 256) as u32,
-        ap: w / 32768 % 2 * 4 + w / 1024 % 4,
-    }
-}
-
-// The entry of a large page's page.
-pub fn large_entry(w: u32, page: usize) -> Entry
-    ensures { λ r. ⌜ r ≡ largeEntry w page ⌝ }
-{
-    Entry {
-        frame: w / 65536 % 65536 * 16 + (page % 16) as u32,
-        ap: w / 512 % 2 * 4 + w / 16 % 4,
-    }
-}
-
-// The entry of a small page.
-pub fn small_entry(w: u32) -> Entry
-    ensures { λ r. ⌜ r ≡ smallEntry w ⌝ }
-{
-    Entry {
-        frame: w / 4096 % 1048576,
-        ap: w / 512 % 2 * 4 + w / 16 % 4,
-    }
-}
-
-// What a level-one word says of a page.
-pub fn first_of(w: u32, page: usize) -> FirstLevel
-    ensures { λ r. ⌜ r ≡ firstOf w page ⌝ }
-{
-    let kind = w % 4;
-    if kind == 1 {
-        return FirstLevel::Table(w / 1024 % 4194304 * 1024);
-    }
-    if kind == 2 {
-        let super_bit = w / 262144 % 2;
-        if super_bit == 0 {
-            return FirstLevel::Section(section_entry(w, page));
-        }
-        return FirstLevel::Failing(Fault::FirstUnmapped);
-    }
-    FirstLevel::Failing(Fault::FirstUnmapped)
-}
-
-// What a level-two word says of a page.
-pub fn second_of(w: u32, page: usize) -> Outcome
-    ensures { λ r. ⌜ r ≡ secondOf w page ⌝ }
-{
-    let kind = w % 4;
-    if kind == 0 {
-        return Outcome::Failed(Fault::SecondUnmapped);
-    }
-    if kind == 1 {
-        return Outcome::Mapped(large_entry(w, page));
-    }
-    Outcome::Mapped(small_entry(w))
 }
 
 // What level one says of a page.
@@ -129,27 +70,6 @@ pub fn entry_word(e: Entry) -> u32
     ensures { λ r. ⌜ r ≡ entryWord e ⌝ }
 {
     e.frame % 1048576 * 4096 + e.ap % 8 * 512 + 2
-}
-
-// Whether n bytes can be a memory.
-pub fn memory_fits(n: usize) -> bool
-    ensures { λ r. ⌜ r ≡ memoryFits n ⌝ }
-{
-    let rest = n % 4096;
-    if rest == 0 {
-        if 4096 <= n {
-            return n <= 16777216;
-        }
-        return false;
-    }
-    false
-}
-
-// Whether a root has its alignment.
-pub fn root_fits(root: u32) -> bool
-    ensures { λ r. ⌜ r ≡ rootFits root ⌝ }
-{
-    root % 128 == 0
 }
 
 fn outcome_number(o: Outcome) -> u64

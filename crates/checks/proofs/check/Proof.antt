@@ -7,11 +7,11 @@ use Rattle.checks.proofs.check.Reads as reads
 use Rattle.checks.proofs.check.Lts as lts
 use Rattle.checks.proofs.address_fits.Reads as address-fits-reads
 use Rattle.checks.proofs.context_fits.Reads as context-fits-reads
-use Rattle.checks.proofs.lengths_fit.Reads as lengths-fit-reads
+use Rattle.limits.proofs.lengths_fit.Reads as lengths-fit-reads
 use Rattle.checks.proofs.may_ask.Reads as may-ask-reads
 use Rattle.checks.proofs.mode_fits.Reads as mode-fits-reads
 use Rattle.checks.proofs.new_root_fits.Reads as new-root-fits-reads
-use Rattle.checks.proofs.registers_fit.Reads as registers-fit-reads
+use Rattle.limits.proofs.registers_fit.Reads as registers-fit-reads
 use Rattle.checks.proofs.size_fits.Reads as size-fits-reads
 use Rattle.checks.proofs.value_fits.Reads as value-fits-reads
 

@@ -7,8 +7,8 @@ use Rattle.checks.proofs.check_start.Statement.{statement}
 use Rattle.checks.proofs.check_start.Tie as tie
 use Rattle.checks.proofs.check_start.Reads as reads
 use Rattle.checks.proofs.check_start.Lts as lts
-use Rattle.checks.proofs.lengths_fit.Reads as lengths-fit-reads
-use Rattle.walk.proofs.root_fits.Reads as root-fits-reads
+use Rattle.limits.proofs.lengths_fit.Reads as lengths-fit-reads
+use Rattle.limits.proofs.root_fits.Reads as root-fits-reads
 
 lengths-fit-requires : tie.Need-lengths-fit-requires
 lengths-fit-requires c κs = search needs

@@ -9,7 +9,7 @@ use Rattle.checks.proofs.new_root_fits.Statement.{statement}
 use Rattle.checks.proofs.new_root_fits.Tie as tie
 use Rattle.checks.proofs.new_root_fits.Reads as reads
 use Rattle.checks.proofs.new_root_fits.Lts as lts
-use Rattle.walk.proofs.root_fits.Reads as root-fits-reads
+use Rattle.limits.proofs.root_fits.Reads as root-fits-reads
 
 enum-told : tie.Need-enum-told
 enum-told c = search needs

@@ -9,7 +9,7 @@ use Rattle.checks.proofs.size_fits.Statement.{statement}
 use Rattle.checks.proofs.size_fits.Tie as tie
 use Rattle.checks.proofs.size_fits.Reads as reads
 use Rattle.checks.proofs.size_fits.Lts as lts
-use Rattle.checks.proofs.is_size.Reads as is-size-reads
+use Rattle.limits.proofs.is_size.Reads as is-size-reads
 
 enum-told : tie.Need-enum-told
 enum-told c = search needs

@@ -9,7 +9,7 @@ use Rattle.checks.proofs.value_fits.Statement.{statement}
 use Rattle.checks.proofs.value_fits.Tie as tie
 use Rattle.checks.proofs.value_fits.Reads as reads
 use Rattle.checks.proofs.value_fits.Lts as lts
-use Rattle.checks.proofs.fits_size.Reads as fits-size-reads
+use Rattle.limits.proofs.fits_size.Reads as fits-size-reads
 
 enum-told : tie.Need-enum-told
 enum-told c = search needs

@@ -6,7 +6,7 @@ use Rattle.ffi.proofs.answer_number.Statement.{statement}
 use Rattle.ffi.proofs.answer_number.Tie as tie
 use Rattle.ffi.proofs.answer_number.Reads as reads
 use Rattle.ffi.proofs.answer_number.Lts as lts
-use Rattle.machine.proofs.refusal_number.Reads as refusal-number-reads
+use Rattle.checks.proofs.refusal_number.Reads as refusal-number-reads
 use Rattle.walk.proofs.fault_number.Reads as fault-number-reads
 
 -- src/lib.rt:76:22

@@ -1,6 +1,6 @@
 use mathlib.Core.Path.{sym, ap, _∙_}
 use denote.Ref.{now}
-use Rattle.machine.proofs.Laws.{regive}
+use Rattle.transfer.proofs.Laws.{regive}
 use Rattle.model.specs.step.Machine.{carried, readStep, writeStep, operate}
 use Rattle.model.specs.declared.Size.{Size}
 use Rattle.model.specs.declared.Kind.{Kind}
@@ -13,13 +13,13 @@ use Rattle.machine.proofs.carry_out.Statement.{statement}
 use Rattle.machine.proofs.carry_out.Tie as tie
 use Rattle.machine.proofs.carry_out.Reads as reads
 use Rattle.machine.proofs.carry_out.Lts as lts
-use Rattle.machine.proofs.carry.Reads as carry-reads
-use Rattle.machine.proofs.read.Reads as read-reads
-use Rattle.machine.proofs.size_of.Reads as size-of-reads
+use Rattle.transfer.proofs.carry.Reads as carry-reads
+use Rattle.transfer.proofs.read.Reads as read-reads
+use Rattle.access.proofs.size_of.Reads as size-of-reads
 use Rattle.machine.proofs.with_context.Reads as with-context-reads
 use Rattle.machine.proofs.with_mode.Reads as with-mode-reads
 use Rattle.machine.proofs.with_root.Reads as with-root-reads
-use Rattle.machine.proofs.write.Reads as write-reads
+use Rattle.transfer.proofs.write.Reads as write-reads
 use Rattle.track.proofs.flush_all.Reads as flush-all-reads
 use Rattle.track.proofs.flush_context.Reads as flush-context-reads
 use Rattle.track.proofs.flush_page.Reads as flush-page-reads

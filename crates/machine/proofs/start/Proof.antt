@@ -1,6 +1,6 @@
 use mathlib.Core.Path.{sym, ap, ap₂, _∙_, refl}
 use denote.Ref.{now}
-use Rattle.machine.proofs.Laws.{regive, turned}
+use Rattle.transfer.proofs.Laws.{regive, turned}
 use Rattle.model.specs.step.Machine.{After, carried, readFrom, writeTo, readStep, writeStep, operate, checked, stepped, started, startedBy}
 use Rattle.model.specs.declared.Access.{Access}
 use Rattle.model.specs.declared.Size.{Size}
@@ -16,7 +16,7 @@ use Rattle.machine.proofs.start.Tie as tie
 use Rattle.machine.proofs.start.Reads as reads
 use Rattle.machine.proofs.start.Lts as lts
 use Rattle.checks.proofs.check_start.Reads as check-start-reads
-use Rattle.machine.proofs.carry.Reads as carry-reads
+use Rattle.transfer.proofs.carry.Reads as carry-reads
 use Rattle.track.proofs.flush_all.Reads as flush-all-reads
 
 -- src/lib.rt:181:11

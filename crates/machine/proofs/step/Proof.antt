@@ -1,6 +1,6 @@
 use mathlib.Core.Path.{sym, ap, ap₂, _∙_, refl}
 use denote.Ref.{now}
-use Rattle.machine.proofs.Laws.{regive, turned}
+use Rattle.transfer.proofs.Laws.{regive, turned}
 use Rattle.model.specs.step.Machine.{After, carried, readFrom, writeTo, readStep, writeStep, operate, checked, stepped, started, startedBy}
 use Rattle.model.specs.declared.Access.{Access}
 use Rattle.model.specs.declared.Size.{Size}

@@ -31,8 +31,8 @@ slice-write-row : tie.Need-slice-write-row Inv-loop μ-loop
 slice-write-row c = omega arith
 
 -- src/lib.rt:60:9
-add-page : tie.Need-add-page Inv-loop μ-loop
-add-page c = omega arith
+add-p : tie.Need-add-p Inv-loop μ-loop
+add-p c = omega arith
 
 -- src/lib.rt:58:5
 loop-less : tie.Need-loop-less Inv-loop μ-loop
@@ -50,7 +50,7 @@ same-length c = c .before .loop .inv .1 .1
 -- src/lib.rt:54:1
 returns : tie.Need-returns Inv-loop μ-loop
 returns c = let l = c .before in
-    all-turns (λ (i w : ℕ). 0) (l .before .args .row .now) (l .loop .row) (l .loop .page) (l .loop .inv .1 .0) (omega arith)
+    all-turns (λ (i w : ℕ). 0) (l .before .args .row .now) (l .loop .row) (l .loop .p) (l .loop .inv .1 .0) (omega arith)
 
 pub empty-row-spec : {M : Type 1} → statement M
 empty-row-spec =
@@ -61,7 +61,7 @@ empty-row-spec =
     loop-holds
     mul-row
     slice-write-row
-    add-page
+    add-p
     loop-less
     loop-again
     same-length

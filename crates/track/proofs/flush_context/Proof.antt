@@ -12,12 +12,12 @@ use Rattle.track.proofs.flush_context.Lts as lts
 use Rattle.track.proofs.empty_row.Reads as empty-row-reads
 
 -- src/lib.rt:87:21
-mul-start : tie.Need-mul-start
-mul-start c = search needs
+mul-first : tie.Need-mul-first
+mul-first c = search needs
 
 -- src/lib.rt:88:19
-add-end : tie.Need-add-end
-add-end c = search needs
+add-past : tie.Need-add-past
+add-past c = search needs
 
 -- src/lib.rt:89:19
 mul-empty-row : tie.Need-mul-empty-row
@@ -59,8 +59,8 @@ pub flush-context-spec : {M : Type 1} → statement M
 flush-context-spec =
     tie.close
     (tie.spec
-    mul-start
-    add-end
+    mul-first
+    add-past
     mul-empty-row
     sub-empty-row
     part-empty-row-start

@@ -12,12 +12,12 @@ use Rattle.track.proofs.flush_page_in.Lts as lts
 use Rattle.track.proofs.empty_page.Reads as empty-page-reads
 
 -- src/lib.rt:98:21
-mul-start : tie.Need-mul-start
-mul-start c = search needs
+mul-from : tie.Need-mul-from
+mul-from c = search needs
 
 -- src/lib.rt:99:19
-add-end : tie.Need-add-end
-add-end c = search needs
+add-to : tie.Need-add-to
+add-to c = search needs
 
 -- src/lib.rt:100:20
 mul-empty-page : tie.Need-mul-empty-page
@@ -59,8 +59,8 @@ pub flush-page-in-spec : {M : Type 1} → statement M
 flush-page-in-spec =
     tie.close
     (tie.spec
-    mul-start
-    add-end
+    mul-from
+    add-to
     mul-empty-page
     sub-empty-page
     part-empty-page-start

@@ -6,9 +6,9 @@ use Rattle.walk.proofs.walk_image.Statement.{statement}
 use Rattle.walk.proofs.walk_image.Tie as tie
 use Rattle.walk.proofs.walk_image.Reads as reads
 use Rattle.walk.proofs.walk_image.Lts as lts
-use Rattle.walk.proofs.memory_fits.Reads as memory-fits-reads
+use Rattle.limits.proofs.memory_fits.Reads as memory-fits-reads
 use Rattle.walk.proofs.outcome_number.Reads as outcome-number-reads
-use Rattle.walk.proofs.root_fits.Reads as root-fits-reads
+use Rattle.limits.proofs.root_fits.Reads as root-fits-reads
 use Rattle.walk.proofs.walk.Reads as walk-reads
 
 -- src/lib.rt:169:8

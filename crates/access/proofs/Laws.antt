@@ -1,0 +1,36 @@
+-- What the definition of an access says, over plain variables.
+use Prim.Native.Nat.{ℕ}
+use mathlib.Core.Path.{_≡_, sym, ap, _∙_}
+use mathlib.Core.Bool.{Bool, true, false}
+use mathlib.Core.List.{List}
+use Rattle.model.specs.declared.Access.the-variants.{Fails, Physical}
+use Rattle.model.specs.declared.Entry.{Entry}
+use Rattle.model.specs.declared.Fault.{Fault}
+use Rattle.model.specs.declared.Fault.the-variants.{Permission, AccessOutside}
+use Rattle.model.specs.declared.Outcome.{Outcome}
+use Rattle.model.specs.declared.Outcome.the-variants.{Mapped, Failed}
+use Rattle.model.specs.declared.Size.{Size}
+use Rattle.model.specs.step.Memory.{within}
+use Rattle.model.specs.step.Rights.{permitted}
+use Rattle.model.specs.step.Machine.{physicalOf, granted}
+
+-- a test of an answer t is a test of what it is equal to
+pub was : {t v : Bool} (u : Bool) → t ≡ u → t ≡ v → u ≡ v
+was u e h = sym e ∙ h
+
+module _ (o : Outcome) (mode : ℕ) (writes : Bool) (size : Size) (a : ℕ) (m : List ℕ) where
+  pub grant-failed : (f : Fault) → o ≡ Failed f → Fails f ≡ granted o mode writes size a m
+  grant-failed f e = sym (ap (λ (z : Outcome). granted z mode writes size a m) e)
+
+  module _ (e : Entry) (is : o ≡ Mapped e) where
+    by-entry : granted (Mapped e) mode writes size a m ≡ granted o mode writes size a m
+    by-entry = sym (ap (λ (z : Outcome). granted z mode writes size a m) is)
+
+    pub grant-physical : permitted (e .ap) mode writes ≡ true → within size m (physicalOf e a) ≡ true → Physical (physicalOf e a) ≡ granted o mode writes size a m
+    grant-physical p w = sym (simp (p, w)) ∙ by-entry
+
+    pub grant-outside : permitted (e .ap) mode writes ≡ true → within size m (physicalOf e a) ≡ false → Fails AccessOutside ≡ granted o mode writes size a m
+    grant-outside p w = sym (simp (p, w)) ∙ by-entry
+
+    pub grant-denied : permitted (e .ap) mode writes ≡ false → Fails Permission ≡ granted o mode writes size a m
+    grant-denied p = sym (simp p) ∙ by-entry

@@ -1,0 +1,31 @@
+use mathlib.Core.Path.{sym, _∙_}
+use Rattle.model.specs.step.Machine.{accessAt}
+use borrow.Author.Needs.{needs}
+use Rattle.access.proofs.access_at.Statement.{statement}
+use Rattle.access.proofs.access_at.Tie as tie
+use Rattle.access.proofs.access_at.Reads as reads
+use Rattle.access.proofs.access_at.Lts as lts
+use Rattle.access.proofs.decide.Reads as decide-reads
+use Rattle.track.proofs.word_at.Reads as word-at-reads
+use Rattle.walk.proofs.walk.Reads as walk-reads
+
+-- src/lib.rt:70:9
+walk-requires : tie.Need-walk-requires
+walk-requires c κs = search needs
+
+-- src/lib.rt:71:9
+word-at-requires : tie.Need-word-at-requires
+word-at-requires c κs = search needs
+
+-- src/lib.rt:72:5
+decide-requires : tie.Need-decide-requires
+decide-requires c κs = search needs
+
+-- src/lib.rt:66:1
+returns : tie.Need-returns
+unfolding accessAt
+returns c = let w = c .before in let o = w .before in
+    c .decide .ensures ∙ rw (w .word-at .ensures, o .walk .ensures)
+
+pub access-at-spec : {M : Type 1} → statement M
+access-at-spec = tie.close (tie.spec walk-requires word-at-requires decide-requires returns)

@@ -1,0 +1,57 @@
+-- What the tables of cases share: images, steps, and answers as numbers.
+use Prim.Native.Nat.{ℕ, _+_}
+use mathlib.Core.Bool.{Bool, true, false, cond}
+use mathlib.Core.List.{List, [], _∷_}
+use lib.Dec.{eqb}
+use lib.ListN.{replicate}
+use Rattle.model.specs.Numbers.{Result, ok, fault, refused, shown}
+use Rattle.model.specs.step.Memory.{storedAt, within, loadAt, writtenAt}
+use Rattle.model.specs.step.Walk.{walkPage, firstAt, firstOf, secondAt, secondOf}
+use Rattle.model.specs.step.Rights.{kernelRights, userRights, rightsOf, permitted}
+use Rattle.model.specs.step.Rows.{inRow, eachRow}
+use Rattle.model.specs.step.Track.{isEntry, addEntry, notePage, noteTrack, flushAll, flushPage, flushContext, flushPageIn, staleWord}
+use Rattle.model.specs.step.Checks.{memoryFits, trackFits, lengthsFit, rootFits, registersFit, sizeFits, addressFits, valueFits, newRootFits, contextFits, modeFits, mayAsk, checks, startChecks, firstFailing}
+use Rattle.model.specs.step.Machine.{After, decided, accessAt, readStep, writeStep, operate, stepped, started}
+use Rattle.model.specs.declared.Kind.{Kind}
+use Rattle.model.specs.declared.Size.the-variants.{Four}
+
+-- whether each computed value is the expected one
+abbrev pub allMatch : List (ℕ × ℕ) → Bool
+allMatch [] = true
+allMatch (x ∷ xs) = cond (eqb (x .0) (x .1)) (allMatch xs) false
+
+-- memory with a word stored at `at`
+abbrev pub put : ℕ → ℕ → List ℕ → List ℕ
+put at w m = storedAt Four m at w
+
+-- the shortest memory, all zero
+abbrev pub zeros : List ℕ
+zeros = replicate 4096 0
+
+-- image A
+abbrev pub imageA : List ℕ
+imageA =
+    put 0x0 0x401 (put 0x400 0x812 (put 0x404 0x3832 (put 0x3000 0x12345678 (put 0x4000 0x11223344 (replicate 32768 0)))))
+
+-- an operation with its fields, on what the one before it left; to unfold it is to unfold the whole step, and start
+unfoldable pub next : Kind → ℕ → ℕ → ℕ → After → After
+unfolding within loadAt writtenAt walkPage firstAt firstOf secondAt secondOf kernelRights userRights rightsOf permitted inRow
+    eachRow isEntry addEntry notePage noteTrack flushAll flushPage flushContext flushPageIn staleWord memoryFits
+    trackFits lengthsFit rootFits registersFit sizeFits addressFits valueFits newRootFits contextFits modeFits mayAsk
+    checks startChecks firstFailing decided accessAt readStep writeStep operate stepped started
+next k a b c x = stepped (record { kind = k; a = a; b = b; c = c }) (x .registers) (x .memory) (x .track)
+
+-- an answer as one number: the value, or the number of a fault or a refusal, each above every value
+abbrev pub faultCode : ℕ → ℕ
+faultCode n = 0x100000000 + n
+
+abbrev pub refusalCode : ℕ → ℕ
+refusalCode n = 0x200000000 + n
+
+abbrev pub code : Result → ℕ
+code (ok v) = v
+code (fault n) = faultCode n
+code (refused n) = refusalCode n
+
+abbrev pub answered : After → ℕ
+answered x = code (shown (x .answer))

@@ -1,0 +1,709 @@
+-- Cases beyond those that the rules mark P, as one table: what the step's definitions compute, and what the rules say.
+use Prim.Native.Nat.{ℕ, _+_, _*_, _/_, _%_}
+use mathlib.Core.Path.{_≡_, refl}
+use mathlib.Core.Bool.{Bool, true, false, cond}
+use mathlib.Core.List.{List, [], _∷_, _++_}
+use lib.Dec.{eqb}
+use lib.ListN.{getD, set, replicate}
+use Rattle.model.specs.Numbers.{faultNumber, refusalNumber}
+use Rattle.model.specs.step.Memory.{numberAt}
+use Rattle.model.specs.step.Walk.{firstOf, walkPage}
+use Rattle.model.specs.step.Rights.{permitted}
+use Rattle.model.specs.step.Track.{entryWord, addEntry, wordAt, staleWord}
+use Rattle.model.specs.step.Checks.{checks, startChecks, firstFailing}
+use Rattle.model.specs.step.Machine.{After, started}
+use Rattle.model.specs.declared.Registers.{Registers}
+use Rattle.model.specs.declared.Operation.{Operation}
+use Rattle.model.specs.declared.Kind.{Kind}
+use Rattle.model.specs.declared.Kind.the-variants.{Read, Write, Root, Asid, Mode, All, Addr, Ctx, AddrCtx}
+use Rattle.model.specs.declared.Fault.the-variants.{SecondUnmapped, FirstOutside}
+use Rattle.model.specs.declared.Answer.the-variants.{Done}
+use Rattle.model.specs.declared.Size.the-variants.{Four}
+use Rattle.model.specs.declared.FirstLevel.{FirstLevel}
+use Rattle.model.specs.declared.FirstLevel.the-variants.{Failing, Table, Section}
+use Rattle.model.specs.declared.Outcome.{Outcome}
+use Rattle.model.specs.declared.Outcome.the-variants.{Mapped, Failed}
+use Rattle.model.specs.declared.Check.{Check}
+use Rattle.model.specs.declared.Check.the-variants.{Pass, Refuse}
+use Rattle.cases.proofs.CaseTools.{allMatch, put, zeros, imageA, next, faultCode, refusalCode, answered}
+
+-- 1 where it holds, 0 where not
+abbrev bit : Bool → ℕ
+bit true = 1
+bit false = 0
+
+-- whether two lists are the same
+abbrev same : List ℕ → List ℕ → Bool
+same [] [] = true
+same [] (y ∷ ys) = false
+same (x ∷ xs) [] = false
+same (x ∷ xs) (y ∷ ys) = cond (eqb x y) (same xs ys) false
+
+-- The answers to the list of image A, by line.
+listing : List (ℕ × ℕ)
+unfolding next
+listing =
+    let start = started imageA (replicate 1024 0) 0 in
+    let line2 = next Read 0x1000 4 0 start in
+    let line3 = next Write 0x404 4 0x4832 line2 in
+    let line4 = next Read 0x1000 4 0 line3 in
+    let line5 = next Addr 0x1000 0 0 line4 in
+    let line6 = next Read 0x1000 4 0 line5 in
+    let line7 = next Read 0x1002 4 0 line6 in
+    let line8 = next Read 0x2000 1 0 line7 in
+    let line9 = next Mode 1 0 0 line8 in
+    let line10 = next Read 0x404 4 0 line9 in
+    let line11 = next All 0 0 0 line10 in
+    (answered line2, 0x12345678)
+    ∷ (answered line3, 0)
+    ∷ (answered line4, refusalCode 16)
+    ∷ (answered line5, 0)
+    ∷ (answered line6, 0x11223344)
+    ∷ (answered line7, faultCode 1)
+    ∷ (answered line8, faultCode 3)
+    ∷ (answered line9, 0)
+    ∷ (answered line10, faultCode 4)
+    ∷ (answered line11, refusalCode 15)
+    ∷ []
+
+-- what an AP permits: read and write in kernel mode, then in user mode
+abbrev rights : ℕ → ℕ × ℕ → ℕ × ℕ → List (ℕ × ℕ)
+rights ap kernel user =
+    (bit (permitted ap 0 false), kernel .0)
+    ∷ (bit (permitted ap 0 true), kernel .1)
+    ∷ (bit (permitted ap 1 false), user .0)
+    ∷ (bit (permitted ap 1 true), user .1)
+    ∷ []
+
+-- The rights of each AP.
+permissions : List (ℕ × ℕ)
+unfolding next
+permissions =
+    rights 0 (0, 0) (0, 0)
+    ++ rights 1 (1, 1) (0, 0)
+    ++ rights 2 (1, 1) (1, 0)
+    ++ rights 3 (1, 1) (1, 1)
+    ++ rights 4 (0, 0) (0, 0)
+    ++ rights 5 (1, 0) (0, 0)
+    ++ rights 6 (1, 0) (1, 0)
+    ++ rights 7 (1, 0) (1, 0)
+
+-- an entry as one number, and an outcome: an entry or a fault
+abbrev entry : ℕ → ℕ → ℕ
+entry frame ap = frame * 8 + ap
+
+abbrev outcome : Outcome → ℕ
+outcome (Mapped e) = entry (e .frame) (e .ap)
+outcome (Failed f) = faultCode (faultNumber f)
+
+-- the outcome of a page under root 0 with this level-one word
+abbrev first : ℕ → ℕ → ℕ
+first w page = outcome (walkPage (put (4 * (page / 256)) w zeros) 0 page)
+
+-- the outcome of a page under root 0x80 with its table at 0 and this level-two word
+abbrev second : ℕ → ℕ → ℕ
+second w page = outcome (walkPage (put (0x80 + 4 * (page / 256)) 1 (put (4 * (page % 256)) w zeros)) 0x80 page)
+
+-- the base of the table that a level-one word points to
+abbrev tableBase : FirstLevel → ℕ
+tableBase (Table t) = t
+tableBase (Section e) = 0
+tableBase (Failing f) = faultCode (faultNumber f)
+
+-- Level-one words: sections, and words that map nothing.
+sections : List (ℕ × ℕ)
+unfolding next
+sections =
+    -- the kind bits alone; base, bits 20 and 31; AP[2], bit 15; AP[1:0], bits 10 and 11
+    (first 0x00000002 0, entry 0 0)
+    ∷ (first 0x00100002 0, entry 0x100 0)
+    ∷ (first 0x80000002 0, entry 0x80000 0)
+    ∷ (first 0x00008002 0, entry 0 4)
+    ∷ (first 0x00000402 0, entry 0 1)
+    ∷ (first 0x00000802 0, entry 0 2)
+    -- every bit of base and AP, and the same with every ignored bit; every ignored bit alone
+    ∷ (first 0xFFF08C02 0, entry 0xFFF00 7)
+    ∷ (first 0xFFFBFFFE 0, entry 0xFFF00 7)
+    ∷ (first 0x000B73FE 0, entry 0 0)
+    -- the low eight frame bits come from the page
+    ∷ (first 0x12300002 0x101, entry 0x12301 0)
+    ∷ (first 0x12300002 0x180, entry 0x12380 0)
+    ∷ (first 0x12300002 0x3A5, entry 0x123A5 0)
+    -- bit 18 set: no mapping
+    ∷ (first 0x00040002 0, faultCode 2)
+    ∷ (first 0xFFFFFFFE 0, faultCode 2)
+    -- kinds 0 and 3: no mapping
+    ∷ (first 0x00000000 0, faultCode 2)
+    ∷ (first 0xFFFFFFFC 0, faultCode 2)
+    ∷ (first 0x00000003 0, faultCode 2)
+    ∷ (first 0xFFFFFFFF 0, faultCode 2)
+    ∷ []
+
+-- Level-one words that point to a table, and where the words of a walk stand.
+tables : List (ℕ × ℕ)
+unfolding next
+tables =
+    let atBase = put 0x400 0x12345032 zeros in
+    let atEnd = put 0x8C 0x401 (put 0x7FC 0x12345032 zeros) in
+    -- the kind bits alone; base, bits 10 and 31
+    (tableBase (firstOf 0x00000001 0), 0)
+    ∷ (tableBase (firstOf 0x00000401 0), 0x400)
+    ∷ (tableBase (firstOf 0x80000001 0), 0x80000000)
+    -- every bit of the base, and the same with every ignored bit; every ignored bit alone
+    ∷ (tableBase (firstOf 0xFFFFFC01 0), 0xFFFFFC00)
+    ∷ (tableBase (firstOf 0xFFFFFFFD 0), 0xFFFFFC00)
+    ∷ (tableBase (firstOf 0x000003FD 0), 0)
+    -- the same by walks, with a level-two word at 0x400
+    ∷ (outcome (walkPage (put 0 0x00000401 atBase) 0 0), entry 0x12345 3)
+    ∷ (outcome (walkPage (put 0 0x000007FD atBase) 0 0), entry 0x12345 3)
+    ∷ (outcome (walkPage (put 0 0x80000401 atBase) 0 0), faultCode 6)
+    -- the level-one word of page 0x3FF is at 0xC from the root, its level-two word at 0x3FC from the table's base
+    ∷ (outcome (walkPage atEnd 0x80 0x3FF), entry 0x12345 3)
+    ∷ (outcome (walkPage atEnd 0x80 0x3FE), faultCode 3)
+    ∷ (outcome (walkPage atEnd 0x80 0x2FF), faultCode 2)
+    -- at each level the last words of memory, and the first behind them
+    ∷ (outcome (walkPage (put 0xF8C 0x12300002 zeros) 0xF80 0x300), entry 0x12300 0)
+    ∷ (outcome (walkPage zeros 0x1000 0), faultCode 5)
+    ∷ (outcome (walkPage (put 0 0xC01 (put 0xFFC 0x12345032 zeros)) 0 0xFF), entry 0x12345 3)
+    ∷ (outcome (walkPage (put 0 0x1001 zeros) 0 0), faultCode 6)
+    ∷ []
+
+-- Level-two words: large pages, small pages, and words that map nothing.
+pages : List (ℕ × ℕ)
+unfolding next
+pages =
+    -- large page: the kind bits alone; base, bits 16 and 31; AP[2], bit 9; AP[1:0], bits 4 and 5
+    (second 0x00000001 0, entry 0 0)
+    ∷ (second 0x00010001 0, entry 0x10 0)
+    ∷ (second 0x80000001 0, entry 0x80000 0)
+    ∷ (second 0x00000201 0, entry 0 4)
+    ∷ (second 0x00000011 0, entry 0 1)
+    ∷ (second 0x00000021 0, entry 0 2)
+    -- every bit of base and AP, and the same with every ignored bit; every ignored bit alone
+    ∷ (second 0xFFFF0231 0, entry 0xFFFF0 7)
+    ∷ (second 0xFFFFFFFD 0, entry 0xFFFF0 7)
+    ∷ (second 0x0000FDCD 0, entry 0 0)
+    -- the low four frame bits come from the page
+    ∷ (second 0x12340001 0x101, entry 0x12341 0)
+    ∷ (second 0x12340001 0x108, entry 0x12348 0)
+    ∷ (second 0x12340001 0x3A5, entry 0x12345 0)
+    ∷ (second 0x12340001 0x1F0, entry 0x12340 0)
+    -- small page: the kind bits alone; base, bits 12 and 31; AP[2], bit 9; AP[1:0], bits 4 and 5
+    ∷ (second 0x00000002 0, entry 0 0)
+    ∷ (second 0x00001002 0, entry 1 0)
+    ∷ (second 0x80000002 0, entry 0x80000 0)
+    ∷ (second 0x00000202 0, entry 0 4)
+    ∷ (second 0x00000012 0, entry 0 1)
+    ∷ (second 0x00000022 0, entry 0 2)
+    -- every bit of base and AP, and the same with every ignored bit; every ignored bit alone
+    ∷ (second 0xFFFFF232 0, entry 0xFFFFF 7)
+    ∷ (second 0xFFFFFFFE 0, entry 0xFFFFF 7)
+    ∷ (second 0x00000DCE 0, entry 0 0)
+    -- kind 3 is a small page too
+    ∷ (second 0x00000003 0, entry 0 0)
+    ∷ (second 0x12345213 0, entry 0x12345 5)
+    ∷ (second 0xFFFFFFFF 0, entry 0xFFFFF 7)
+    -- no frame bit of a small page comes from the page
+    ∷ (second 0x12340002 0x3A5, entry 0x12340 0)
+    -- kind 0: no mapping
+    ∷ (second 0x00000000 0, faultCode 3)
+    ∷ (second 0xFFFFFFFC 0, faultCode 3)
+    ∷ []
+
+-- The small image has two maps and two words of data.
+-- Under root 0x80: page 0 frame 0, AP 3; page 1 frame 0, AP 1; page 2 no mapping; page 3 frame 0, AP 7;
+-- from page 0x100 no mapping; from 0x200 a section at 0x300000, AP 1, not in memory; from 0x300 a table not in memory.
+-- Under root 0x100: page 0 frame 5, AP 3; page 1 frame 0, AP 1; page 2 frame 6, AP 3; no other mapping.
+abbrev smallImage : List ℕ
+smallImage =
+    put 0x80 0x401 (put 0x88 0x300402 (put 0x8C 0x2001
+    (put 0x400 0x32 (put 0x404 0x12 (put 0x40C 0x232
+    (put 0x100 0x801 (put 0x800 0x5032 (put 0x804 0x12 (put 0x808 0x6032
+    (put 0x10 0x44332211 (put 0x14 0x88776655 zeros)))))))))))
+
+-- registers, memory and track as an operation is given them
+abbrev given : ℕ → ℕ → ℕ → List ℕ → List ℕ → After
+given root context mode m t =
+    record { answer = Done 0; registers = record { root = root; context = context; mode = mode }; memory = m; track = t }
+
+-- registers as one number, and those that an operation returned
+abbrev packed : ℕ → ℕ → ℕ → ℕ
+packed root context mode = root * 4096 + context * 16 + mode
+
+abbrev returned : After → ℕ
+returned x = packed (x .registers .root) (x .registers .context) (x .registers .mode)
+
+-- two contexts with every set empty
+abbrev emptyTrack : List ℕ
+emptyTrack = replicate 2048 0
+
+-- an operation's answer, and that registers and memory stay as they were
+abbrev keeping : After → After → ℕ → List (ℕ × ℕ)
+keeping x y n = (answered y, n) ∷ (returned y, returned x) ∷ (bit (same (y .memory) (x .memory)), 1) ∷ []
+
+-- the same of a fault, and of a refusal, where the track stays too
+abbrev faulting : ℕ → Kind → ℕ → ℕ → ℕ → After → List (ℕ × ℕ)
+faulting n k a b c x = keeping x (next k a b c x) (faultCode n)
+
+abbrev refusing : ℕ → Kind → ℕ → ℕ → ℕ → After → List (ℕ × ℕ)
+refusing n k a b c x =
+    let y = next k a b c x in
+    (bit (same (y .track) (x .track)), 1) ∷ keeping x y (refusalCode n)
+
+-- Each fault. It changes no register and no memory.
+faults : List ℕ → List (ℕ × ℕ)
+unfolding next
+faults small =
+    let kernel = given 0x80 1 0 small emptyTrack in
+    let user = given 0x80 1 1 small emptyTrack in
+    let outside = given 0x1000 1 1 small emptyTrack in
+    faulting 1 Write 0x12 4 0xA1B2C3D4 user
+    ++ faulting 2 Write 0x100010 4 0xA1B2C3D4 user
+    ++ faulting 3 Write 0x2010 4 0xA1B2C3D4 user
+    ++ faulting 4 Write 0x3010 4 0xA1B2C3D4 user
+    ++ faulting 5 Write 0x10 4 0xA1B2C3D4 outside
+    ++ faulting 6 Write 0x300010 4 0xA1B2C3D4 user
+    ++ faulting 7 Write 0x200010 4 0xA1B2C3D4 kernel
+    -- a read in user mode of a page that is for the kernel alone
+    ++ faulting 4 Read 0x1010 4 0 user
+    -- fault 1 before 2, and 4 before 7
+    ++ faulting 1 Read 0x100001 2 0 user
+    ++ faulting 4 Read 0x200010 4 0 user
+
+-- Each refusal. It changes no register, no memory and no track.
+refusals : List ℕ → List (ℕ × ℕ)
+unfolding next
+refusals small =
+    let kernel = given 0x80 1 0 small emptyTrack in
+    let user = given 0x80 1 1 small emptyTrack in
+    refusing 7 Read 0x10 3 0 kernel
+    ++ refusing 8 Write 0x400000 4 0 kernel
+    ++ refusing 9 Write 0x10 1 0x100 kernel
+    ++ refusing 10 Root 0x40 0 0 kernel
+    ++ refusing 11 Asid 2 0 0 kernel
+    ++ refusing 12 Mode 2 0 0 kernel
+    ++ refusing 13 Mode 0 0 0 (given 0x80 0 0 small (replicate 1025 0))
+    ++ refusing 14 Mode 0 0 0 (given 0x80 2 0 small emptyTrack)
+    ++ refusing 15 All 0 0 0 user
+    ++ refusing 16 Read 0x10 4 0 (given 0x80 1 0 small (set emptyTrack 1024 0x1602))
+
+-- the first check that fails, as its refusal's number, or 0
+abbrev refusal : Check → ℕ
+refusal Pass = 0
+refusal (Refuse n) = refusalNumber n
+
+-- what the checks say of an operation on m bytes of memory and t words of track
+abbrev checked : ℕ → ℕ → ℕ → ℕ → ℕ → Kind → ℕ → ℕ → ℕ → ℕ
+checked m t root context mode k a b c =
+    let o : Operation = record { kind = k; a = a; b = b; c = c } in
+    let r : Registers = record { root = root; context = context; mode = mode } in
+    refusal (firstFailing (checks o r m t))
+
+-- the same in kernel and in user mode, with two contexts
+abbrev inKernel : Kind → ℕ → ℕ → ℕ → ℕ
+inKernel k a b c = checked 4096 2048 0x80 1 0 k a b c
+
+abbrev inUser : Kind → ℕ → ℕ → ℕ → ℕ
+inUser k a b c = checked 4096 2048 0x80 1 1 k a b c
+
+-- The condition of each refusal but 16, by the checks alone.
+conditions : List (ℕ × ℕ)
+unfolding next
+conditions =
+    -- 13: memory a multiple of 4,096 from 4,096 to 16,777,216
+    (checked 0 1024 0 0 0 Mode 0 0 0, 13)
+    ∷ (checked 4095 1024 0 0 0 Mode 0 0 0, 13)
+    ∷ (checked 4096 1024 0 0 0 Mode 0 0 0, 0)
+    ∷ (checked 6144 1024 0 0 0 Mode 0 0 0, 13)
+    ∷ (checked 16777216 1024 0 0 0 Mode 0 0 0, 0)
+    ∷ (checked 16781312 1024 0 0 0 Mode 0 0 0, 13)
+    -- 13: track 1,024 × k, k from 1 to 256
+    ∷ (checked 4096 0 0 0 0 Mode 0 0 0, 13)
+    ∷ (checked 4096 1023 0 0 0 Mode 0 0 0, 13)
+    ∷ (checked 4096 1536 0 0 0 Mode 0 0 0, 13)
+    ∷ (checked 4096 262144 0 255 0 Mode 0 0 0, 0)
+    ∷ (checked 4096 263168 0 0 0 Mode 0 0 0, 13)
+    -- 14: root a multiple of 0x80, context below k, mode 0 or 1
+    ∷ (checked 4096 2048 0x40 1 1 Mode 0 0 0, 14)
+    ∷ (checked 4096 2048 0x80 2 1 Mode 0 0 0, 14)
+    ∷ (checked 4096 2048 0x80 1 2 Mode 0 0 0, 14)
+    ∷ (checked 4096 2048 0xFFFFFF80 1 1 Mode 0 0 0, 0)
+    -- 7: size
+    ∷ (inKernel Read 0 0 0, 7)
+    ∷ (inKernel Read 0 1 0, 0)
+    ∷ (inKernel Read 0 2 0, 0)
+    ∷ (inKernel Read 0 3 0, 7)
+    ∷ (inKernel Read 0 4 0, 0)
+    ∷ (inKernel Read 0 8 0, 7)
+    ∷ (inKernel Write 0 3 0, 7)
+    -- 8: address, flushes included
+    ∷ (inKernel Read 0x3FFFFF 1 0, 0)
+    ∷ (inKernel Read 0x400000 1 0, 8)
+    ∷ (inKernel Write 0x3FFFFF 1 0, 0)
+    ∷ (inKernel Write 0x400000 1 0, 8)
+    ∷ (inKernel Addr 0x3FFFFF 0 0, 0)
+    ∷ (inKernel Addr 0x400000 0 0, 8)
+    ∷ (inKernel AddrCtx 0x3FFFFF 0 0, 0)
+    ∷ (inKernel AddrCtx 0x400000 0 0, 8)
+    -- 9: value
+    ∷ (inKernel Write 0 1 0xFF, 0)
+    ∷ (inKernel Write 0 1 0x100, 9)
+    ∷ (inKernel Write 0 2 0xFFFF, 0)
+    ∷ (inKernel Write 0 2 0x10000, 9)
+    ∷ (inKernel Write 0 4 0xFFFFFFFF, 0)
+    -- 10: root
+    ∷ (inKernel Root 0x40 0 0, 10)
+    ∷ (inKernel Root 0x80 0 0, 0)
+    ∷ (inKernel Root 0x81 0 0, 10)
+    -- 11: context
+    ∷ (inKernel Asid 1 0 0, 0)
+    ∷ (inKernel Asid 2 0 0, 11)
+    ∷ (inKernel Ctx 1 0 0, 0)
+    ∷ (inKernel Ctx 2 0 0, 11)
+    ∷ (inKernel AddrCtx 0x1000 1 0, 0)
+    ∷ (inKernel AddrCtx 0x1000 2 0, 11)
+    -- 12: mode
+    ∷ (inKernel Mode 1 0 0, 0)
+    ∷ (inKernel Mode 2 0 0, 12)
+    ∷ (inUser Mode 2 0 0, 12)
+    -- 15: all operations but read, write and mode need kernel mode
+    ∷ (inUser Read 0 4 0, 0)
+    ∷ (inUser Write 0 4 0, 0)
+    ∷ (inUser Root 0x80 0 0, 15)
+    ∷ (inUser Asid 0 0 0, 15)
+    ∷ (inUser Mode 0 0 0, 0)
+    ∷ (inUser All 0 0 0, 15)
+    ∷ (inUser Addr 0 0 0, 15)
+    ∷ (inUser Ctx 0 0 0, 15)
+    ∷ (inUser AddrCtx 0 0 0, 15)
+    ∷ (inKernel All 0 0 0, 0)
+    ∷ []
+
+-- The order of the refusals.
+order : List (ℕ × ℕ)
+unfolding next
+order =
+    -- 13 before 14, 14 before 7, 7 before 8, 8 before 9, 8 before 11
+    (checked 4095 2048 0x40 2 2 Read 0 4 0, 13)
+    ∷ (checked 4096 2048 0x80 2 0 Read 0 3 0, 14)
+    ∷ (inKernel Read 0x400000 3 0, 7)
+    ∷ (inKernel Write 0x400000 1 0x100, 8)
+    ∷ (inKernel AddrCtx 0x400000 2 0, 8)
+    -- 8, 10 and 11 before 15
+    ∷ (inUser Addr 0x400000 0 0, 8)
+    ∷ (inUser AddrCtx 0x400000 0 0, 8)
+    ∷ (inUser Root 0x40 0 0, 10)
+    ∷ (inUser Asid 2 0 0, 11)
+    ∷ (inUser Ctx 2 0 0, 11)
+    ∷ (inUser AddrCtx 0 2 0, 11)
+    -- start: 13, 10, and 13 before 10
+    ∷ (refusal (firstFailing (startChecks 4096 1024 0x80)), 0)
+    ∷ (refusal (firstFailing (startChecks 4095 1024 0x80)), 13)
+    ∷ (refusal (firstFailing (startChecks 4096 1023 0x80)), 13)
+    ∷ (refusal (firstFailing (startChecks 4096 1024 0x40)), 10)
+    ∷ (refusal (firstFailing (startChecks 4095 1024 0x40)), 13)
+    ∷ []
+
+-- The place of refusal 16: behind fault 1, before every other fault.
+staleOrder : List ℕ → List (ℕ × ℕ)
+unfolding next
+staleOrder small =
+    -- every word is an entry that no map of the small image has
+    let stale : List ℕ = replicate 1024 0x7002 in
+    let kernel = given 0x80 0 0 small stale in
+    let user = given 0x80 0 1 small stale in
+    -- fault 1 before 16
+    (answered (next Read 0x12 4 0 kernel), faultCode 1)
+    ∷ (answered (next Read 0x10 4 0 kernel), refusalCode 16)
+    -- 16 before faults 5, 2, 6, 3, 4 and 7
+    ∷ (answered (next Read 0x10 4 0 (given 0x1000 0 0 small stale)), refusalCode 16)
+    ∷ (answered (next Read 0x100010 4 0 kernel), refusalCode 16)
+    ∷ (answered (next Read 0x300010 4 0 kernel), refusalCode 16)
+    ∷ (answered (next Read 0x2010 4 0 kernel), refusalCode 16)
+    ∷ (answered (next Read 0x1010 4 0 user), refusalCode 16)
+    ∷ (answered (next Read 0x200010 4 0 kernel), refusalCode 16)
+    -- the words of another context don't matter
+    ∷ (answered (next Read 0x10 4 0 (given 0x80 1 0 small (stale ++ replicate 1024 0))), 0x44332211)
+    ∷ []
+
+-- the words of pages 0, 1 and 2 in context 0, and in context 1
+abbrev tracked : After → ℕ × ℕ × ℕ → ℕ × ℕ × ℕ → List (ℕ × ℕ)
+tracked x zero one =
+    (wordAt (x .track) 0 0, zero .0)
+    ∷ (wordAt (x .track) 0 1, zero .1)
+    ∷ (wordAt (x .track) 0 2, zero .2)
+    ∷ (wordAt (x .track) 1 0, one .0)
+    ∷ (wordAt (x .track) 1 1, one .1)
+    ∷ (wordAt (x .track) 1 2, one .2)
+    ∷ []
+
+-- The flushes: which sets they empty, and which of these are noted again.
+flushes : List ℕ → List (ℕ × ℕ)
+unfolding next
+flushes small =
+    -- every word is odd, and context 0 or 1 is current
+    let in0 = given 0x80 0 0 small (replicate 2048 7) in
+    let in1 = given 0x80 1 0 small (replicate 2048 7) in
+    let all = next All 0 0 0 in0 in
+    let addr = next Addr 0x1000 0 0 in0 in
+    let ctx = next Ctx 1 0 0 in0 in
+    let addrctx = next AddrCtx 0x1000 1 0 in0 in
+    let lastPage = next AddrCtx 0x3FF000 0 0 in0 in
+    -- the sets that a flush names are emptied, and those of the current context are noted again at once
+    tracked all (0x602, 0x202, 0) (0, 0, 0)
+    ++ tracked (next All 0 0 0 in1) (0, 0, 0) (0x602, 0x202, 0)
+    ++ tracked addr (7, 0x202, 7) (7, 0, 7)
+    ++ tracked (next Addr 0x1000 0 0 in1) (7, 0, 7) (7, 0x202, 7)
+    ++ tracked (next Addr 0x2000 0 0 in0) (7, 7, 0) (7, 7, 0)
+    ++ tracked (next Ctx 0 0 0 in0) (0x602, 0x202, 0) (7, 7, 7)
+    ++ tracked ctx (7, 7, 7) (0, 0, 0)
+    ++ tracked (next AddrCtx 0x1000 0 0 in0) (7, 0x202, 7) (7, 7, 7)
+    ++ tracked addrctx (7, 7, 7) (7, 0, 7)
+    -- the low 12 bits of a flush address don't matter
+    ++ tracked (next Addr 0x1FFF 0 0 in0) (7, 0x202, 7) (7, 0, 7)
+    ++ tracked (next AddrCtx 0x1FFF 1 0 in0) (7, 7, 7) (7, 0, 7)
+    -- a flush changes no register and no memory
+    ++ keeping in0 all 0
+    ++ keeping in0 addr 0
+    ++ keeping in0 ctx 0
+    ++ keeping in0 addrctx 0
+    -- the ends of the rows
+    ++ (wordAt (ctx .track) 0 0x3FF, 7)
+    ∷ (wordAt (ctx .track) 1 0x3FF, 0)
+    ∷ (wordAt (lastPage .track) 0 0x3FE, 7)
+    ∷ (wordAt (lastPage .track) 0 0x3FF, 0)
+    ∷ (wordAt (lastPage .track) 1 0, 7)
+    ∷ (wordAt (lastPage .track) 1 0x3FF, 7)
+    ∷ []
+
+-- the word in memory at `at`
+abbrev memoryWord : After → ℕ → ℕ
+memoryWord x at = numberAt Four (x .memory) at
+
+-- Reads and writes of each size.
+sizes : List ℕ → List (ℕ × ℕ)
+unfolding next
+sizes small =
+    let user = given 0x80 1 1 small emptyTrack in
+    let one = next Write 0x11 1 0xAB user in
+    let two = next Write 0x12 2 0xABCD user in
+    let four = next Write 0x1010 4 0xA1B2C3D4 (given 0x80 1 0 small emptyTrack) in
+    -- reads: the low byte comes first
+    (answered (next Read 0x10 1 0 user), 0x11)
+    ∷ (answered (next Read 0x11 1 0 user), 0x22)
+    ∷ (answered (next Read 0x13 1 0 user), 0x44)
+    ∷ (answered (next Read 0x10 2 0 user), 0x2211)
+    ∷ (answered (next Read 0x12 2 0 user), 0x4433)
+    ∷ (answered (next Read 0x10 4 0 user), 0x44332211)
+    ∷ (answered (next Read 0x14 4 0 user), 0x88776655)
+    -- through page 3, which may be read and not written
+    ∷ (answered (next Read 0x3014 4 0 user), 0x88776655)
+    -- the last bytes of memory
+    ∷ (answered (next Read 0xFFF 1 0 user), 0)
+    ∷ (answered (next Read 0xFFE 2 0 user), 0)
+    ∷ (answered (next Read 0xFFC 4 0 user), 0)
+    -- a write of size 1, of 2, and of 4 through page 1: the bytes stored, and the bytes beside them
+    ∷ (answered one, 0)
+    ∷ (memoryWord one 0xC, 0)
+    ∷ (memoryWord one 0x10, 0x4433AB11)
+    ∷ (memoryWord one 0x14, 0x88776655)
+    ∷ (answered two, 0)
+    ∷ (memoryWord two 0xC, 0)
+    ∷ (memoryWord two 0x10, 0xABCD2211)
+    ∷ (memoryWord two 0x14, 0x88776655)
+    ∷ (answered four, 0)
+    ∷ (memoryWord four 0xC, 0)
+    ∷ (memoryWord four 0x10, 0xA1B2C3D4)
+    ∷ (memoryWord four 0x14, 0x88776655)
+    -- the four bytes, low byte first
+    ∷ (getD (four .memory) 0x10 0, 0xD4)
+    ∷ (getD (four .memory) 0x11 0, 0xC3)
+    ∷ (getD (four .memory) 0x12 0, 0xB2)
+    ∷ (getD (four .memory) 0x13 0, 0xA1)
+    ∷ []
+
+-- Start.
+starting : List ℕ → List (ℕ × ℕ)
+unfolding next
+starting small =
+    let start = started small (replicate 2048 7) 0x80 in
+    let short = started (replicate 4095 5) (replicate 2048 7) 0x80 in
+    let askew = started small (replicate 2048 7) 0x40 in
+    -- context 0, kernel mode, memory as found
+    (answered start, 0)
+    ∷ (returned start, packed 0x80 0 0)
+    ∷ (bit (same (start .memory) small), 1)
+    -- the track emptied, then every page noted that the tables map, in context 0 alone
+    ∷ (wordAt (start .track) 0 0, 0x602)
+    ∷ (wordAt (start .track) 0 1, 0x202)
+    ∷ (wordAt (start .track) 0 2, 0)
+    ∷ (wordAt (start .track) 0 3, 0xE02)
+    ∷ (wordAt (start .track) 0 0x1FF, 0)
+    ∷ (wordAt (start .track) 0 0x200, 0x300202)
+    ∷ (wordAt (start .track) 0 0x2FF, 0x3FF202)
+    ∷ (wordAt (start .track) 0 0x300, 0)
+    ∷ (wordAt (start .track) 0 0x3FF, 0)
+    ∷ (wordAt (start .track) 1 0, 0)
+    ∷ (wordAt (start .track) 1 0x3FF, 0)
+    -- refused: zero registers, memory and track as found
+    ∷ (answered short, refusalCode 13)
+    ∷ (returned short, packed 0 0 0)
+    ∷ (bit (same (short .memory) (replicate 4095 5)), 1)
+    ∷ (bit (same (short .track) (replicate 2048 7)), 1)
+    ∷ (answered askew, refusalCode 10)
+    ∷ (returned askew, packed 0 0 0)
+    ∷ (bit (same (askew .memory) small), 1)
+    ∷ (bit (same (askew .track) (replicate 2048 7)), 1)
+    ∷ []
+
+-- `asid`, `root` and `mode`, and the noting after them.
+registers : List ℕ → List (ℕ × ℕ)
+unfolding next
+registers small =
+    let start = started small emptyTrack 0x80 in
+    let other = next Asid 1 0 0 start in
+    let moved = next Root 0x100 0 0 other in
+    let user = next Mode 1 0 0 moved in
+    let kernel = next Mode 0 0 0 user in
+    let empty = given 0x80 1 0 small emptyTrack in
+    -- `asid` notes the row of the new context
+    tracked other (0x602, 0x202, 0) (0x602, 0x202, 0)
+    -- `root` notes with the new root: page 0 gains a different entry, page 1 the same, page 2 its first
+    ++ tracked moved (0x602, 0x202, 0) (1, 0x202, 0x6602)
+    -- noting follows `mode`, a read, a write and a fault
+    ++ tracked (next Mode 1 0 0 empty) (0, 0, 0) (0x602, 0x202, 0)
+    ++ tracked (next Read 0x10 4 0 empty) (0, 0, 0) (0x602, 0x202, 0)
+    ++ tracked (next Write 0x10 4 0 empty) (0, 0, 0) (0x602, 0x202, 0)
+    ++ tracked (next Read 0x100000 4 0 empty) (0, 0, 0) (0x602, 0x202, 0)
+    -- each answers 0 and sets its own register; `mode` does in both modes
+    ++ (answered other, 0)
+    ∷ (answered moved, 0)
+    ∷ (answered user, 0)
+    ∷ (answered kernel, 0)
+    ∷ (returned other, packed 0x80 1 0)
+    ∷ (returned moved, packed 0x100 1 0)
+    ∷ (returned user, packed 0x100 1 1)
+    ∷ (returned kernel, packed 0x100 1 0)
+    -- under the new root pages 0 and 3 are stale: one has two entries, the other one entry and no mapping
+    ∷ (wordAt (moved .track) 1 3, 0xE02)
+    ∷ (answered (next Read 0x10 4 0 moved), refusalCode 16)
+    ∷ (answered (next Read 0x1010 4 0 moved), 0x44332211)
+    ∷ (answered (next Read 0x2010 4 0 moved), faultCode 7)
+    ∷ (answered (next Read 0x3010 4 0 moved), refusalCode 16)
+    ∷ []
+
+-- Writes to descriptors.
+descriptors : List ℕ → List (ℕ × ℕ)
+unfolding next
+descriptors small =
+    -- the level-two words of pages 1 and 2 are at 0x404 and 0x408, in page 0
+    let start = started small (replicate 1024 0) 0x80 in
+    let changed = next Write 0x404 4 0x32 start in
+    let back = next Write 0x404 4 0x12 changed in
+    let flushed = next Addr 0x1000 0 0 back in
+    let ignored = next Write 0x404 4 0x812 start in
+    let unmapped = next Write 0x404 4 0 start in
+    let elsewhere = next Write 0x404 4 0x1012 unmapped in
+    let mapped = next Write 0x408 4 0x12 start in
+    -- AP alone changed: the word is 1, the page stale
+    (wordAt (changed .track) 0 1, 1)
+    ∷ (answered (next Read 0x1010 4 0 changed), refusalCode 16)
+    -- its old entry restored, the word is still 1
+    ∷ (wordAt (back .track) 0 1, 1)
+    ∷ (answered (next Read 0x1010 4 0 back), refusalCode 16)
+    -- until a flush
+    ∷ (wordAt (flushed .track) 0 1, 0x202)
+    ∷ (answered (next Read 0x1010 4 0 flushed), 0x44332211)
+    -- an ignored bit changed: the same entry
+    ∷ (wordAt (ignored .track) 0 1, 0x202)
+    ∷ (answered (next Read 0x1010 4 0 ignored), 0x44332211)
+    -- no mapping any more: the word stays, the page is stale, before fault 3; an unaligned access is fault 1
+    ∷ (wordAt (unmapped .track) 0 1, 0x202)
+    ∷ (answered (next Read 0x1010 4 0 unmapped), refusalCode 16)
+    ∷ (answered (next Read 0x1011 4 0 unmapped), faultCode 1)
+    -- another frame: the word is 1
+    ∷ (wordAt (elsewhere .track) 0 1, 1)
+    -- a first mapping: the word is its entry, the page not stale
+    ∷ (wordAt (mapped .track) 0 2, 0x202)
+    ∷ (answered (next Read 0x2010 4 0 mapped), 0x44332211)
+    ∷ []
+
+-- words that are neither 0, nor 1, nor an entry's: bit 1 clear, or a bit set that an entry has clear
+abbrev oddWords : List ℕ
+oddWords =
+    0x1000 ∷ 0x1003 ∷ 0x1006 ∷ 0x100A ∷ 0x1012 ∷ 0x1022 ∷ 0x1042 ∷ 0x1082 ∷ 0x1102
+    ∷ 3 ∷ 4 ∷ 7 ∷ 0xFFFFFFFF ∷ []
+
+-- an odd word stays when an entry is added, and its page is stale whatever the tables say
+abbrev staysOdd : List ℕ → List (ℕ × ℕ)
+staysOdd [] = []
+staysOdd (w ∷ ws) =
+    (addEntry w 0x1002, w)
+    ∷ (bit (staleWord w (Mapped (record { frame = 1; ap = 0 }))), 1)
+    ∷ (bit (staleWord w (Failed SecondUnmapped)), 1)
+    ∷ staysOdd ws
+
+-- The words of the track.
+words : List ℕ → List (ℕ × ℕ)
+unfolding next
+words small =
+    let present = Mapped (record { frame = 1; ap = 0 }) in
+    let odd = given 0x80 0 0 small (7 ∷ 0x206 ∷ 0x1006 ∷ 3 ∷ replicate 1020 0) in
+    let noted = next Mode 0 0 0 odd in
+    let cleared = next Addr 0 0 0 noted in
+    -- the word of one entry: frame in bits 31..12, AP in bits 11..9, bit 1 set
+    (entryWord (record { frame = 0; ap = 0 }), 0x00000002)
+    ∷ (entryWord (record { frame = 1; ap = 0 }), 0x00001002)
+    ∷ (entryWord (record { frame = 0x80000; ap = 0 }), 0x80000002)
+    ∷ (entryWord (record { frame = 0; ap = 1 }), 0x00000202)
+    ∷ (entryWord (record { frame = 0; ap = 4 }), 0x00000802)
+    -- an entry added to an empty set, to itself, to one of another frame, to one of another AP, to two
+    ∷ (addEntry 0 0x1002, 0x1002)
+    ∷ (addEntry 0x1002 0x1002, 0x1002)
+    ∷ (addEntry 0x2002 0x1002, 1)
+    ∷ (addEntry 0x1202 0x1002, 1)
+    ∷ (addEntry 0x0002 0x1002, 1)
+    ∷ (addEntry 0xFFFFFE02 0x1002, 1)
+    ∷ (addEntry 1 0x1002, 1)
+    -- stale: a set with an entry different from the present outcome
+    ∷ (bit (staleWord 0 present), 0)
+    ∷ (bit (staleWord 0x1002 present), 0)
+    ∷ (bit (staleWord 0x2002 present), 1)
+    ∷ (bit (staleWord 0x1202 present), 1)
+    ∷ (bit (staleWord 1 present), 1)
+    ∷ (bit (staleWord 0 (Failed SecondUnmapped)), 0)
+    ∷ (bit (staleWord 0x1002 (Failed SecondUnmapped)), 1)
+    ∷ (bit (staleWord 1 (Failed SecondUnmapped)), 1)
+    ∷ (bit (staleWord 0x1002 (Failed FirstOutside)), 1)
+    -- by steps: odd words stay under noting, and make their pages stale
+    ∷ (wordAt (noted .track) 0 0, 7)
+    ∷ (wordAt (noted .track) 0 1, 0x206)
+    ∷ (wordAt (noted .track) 0 2, 0x1006)
+    ∷ (wordAt (noted .track) 0 3, 3)
+    ∷ (answered (next Read 0x10 4 0 noted), refusalCode 16)
+    ∷ (answered (next Read 0x1010 4 0 noted), refusalCode 16)
+    ∷ (answered (next Read 0x2010 4 0 noted), refusalCode 16)
+    ∷ (answered (next Read 0x3010 4 0 noted), refusalCode 16)
+    -- and go with a flush that names them
+    ∷ (wordAt (cleared .track) 0 0, 0x602)
+    ∷ (wordAt (cleared .track) 0 1, 0x206)
+    ∷ (answered (next Read 0x10 4 0 cleared), 0x44332211)
+    ∷ (wordAt (next Addr 0x2000 0 0 noted .track) 0 2, 0)
+    ∷ (wordAt (next Ctx 0 0 0 noted .track) 0 3, 0xE02)
+    -- a sole entry of another AP makes its page stale, the tables' own does not
+    ∷ (answered (next Read 0x1010 4 0 (given 0x80 0 0 small (0 ∷ 0x602 ∷ replicate 1022 0))), refusalCode 16)
+    ∷ (answered (next Read 0x1010 4 0 (given 0x80 0 0 small (0 ∷ 0x202 ∷ replicate 1022 0))), 0x44332211)
+    ∷ staysOdd oddWords
+
+pub widerCases : List (ℕ × ℕ)
+unfolding listing permissions sections tables pages faults refusals conditions order staleOrder flushes sizes starting
+    registers descriptors words
+widerCases =
+    let small = smallImage in
+    listing ++ permissions ++ sections ++ tables ++ pages
+    ++ faults small ++ refusals small ++ conditions ++ order ++ staleOrder small
+    ++ flushes small ++ sizes small ++ starting small ++ registers small ++ descriptors small ++ words small
+
+pub wider-cases : allMatch widerCases ≡ true
+unfolding widerCases
+wider-cases = refl

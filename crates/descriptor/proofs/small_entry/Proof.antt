@@ -1,0 +1,21 @@
+use mathlib.Core.Path.{refl}
+use borrow.Author.Needs.{needs}
+use Rattle.descriptor.proofs.small_entry.Statement.{statement}
+use Rattle.descriptor.proofs.small_entry.Tie as tie
+use Rattle.descriptor.proofs.small_entry.Reads as reads
+use Rattle.descriptor.proofs.small_entry.Lts as lts
+
+-- src/lib.rt:35:13
+mul-t6 : tie.Need-mul-t6
+mul-t6 c = search needs
+
+-- src/lib.rt:35:13
+add-t9 : tie.Need-add-t9
+add-t9 c = search needs
+
+-- src/lib.rt:30:1
+returns : tie.Need-returns
+returns c = refl
+
+pub small-entry-spec : {M : Type 1} → statement M
+small-entry-spec = tie.close (tie.spec mul-t6 add-t9 returns)

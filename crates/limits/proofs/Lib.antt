@@ -1,0 +1,2 @@
+-- Laws of values.
+pub mod Laws

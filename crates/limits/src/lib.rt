@@ -1,0 +1,89 @@
+// What lengths, registers, sizes and values can be.
+ghost use mathlib.Core.Path.{_≡_};
+ghost use Rattle.model.specs.step.Checks.{memoryFits, trackFits, lengthsFit, rootFits, registersFit, isSize, fitsSize};
+use model::Registers;
+
+// Whether n bytes can be a memory.
+pub fn memory_fits(n: usize) -> bool
+    ensures { λ r. ⌜ r ≡ memoryFits n ⌝ }
+{
+    let rest = n % 4096;
+    if rest == 0 {
+        if 4096 <= n {
+            return n <= 16777216;
+        }
+        return false;
+    }
+    false
+}
+
+// Whether a root has its alignment.
+pub fn root_fits(root: u32) -> bool
+    ensures { λ r. ⌜ r ≡ rootFits root ⌝ }
+{
+    root % 128 == 0
+}
+
+// Whether n words can be a track.
+pub fn track_fits(n: usize) -> bool
+    ensures { λ r. ⌜ r ≡ trackFits n ⌝ }
+{
+    let rest = n % 1024;
+    if rest == 0 {
+        if 1024 <= n {
+            return n <= 262144;
+        }
+        return false;
+    }
+    false
+}
+
+// Whether m bytes can be a memory, and t words a track.
+pub fn lengths_fit(m: usize, t: usize) -> bool
+    ensures { λ r. ⌜ r ≡ lengthsFit m t ⌝ }
+{
+    if memory_fits(m) {
+        return track_fits(t);
+    }
+    false
+}
+
+// Whether registers are in range with k contexts.
+pub fn registers_fit(r: Registers, k: usize) -> bool
+    ensures { λ x. ⌜ x ≡ registersFit r k ⌝ }
+{
+    let context = r.context as usize;
+    if root_fits(r.root) {
+        if context < k {
+            return r.mode <= 1;
+        }
+        return false;
+    }
+    false
+}
+
+// Whether b is a size.
+pub fn is_size(b: u32) -> bool
+    ensures { λ r. ⌜ r ≡ isSize b ⌝ }
+{
+    if b == 1 {
+        return true;
+    }
+    if b == 2 {
+        return true;
+    }
+    b == 4
+}
+
+// Whether a word fits into b bytes.
+pub fn fits_size(b: u32, c: u32) -> bool
+    ensures { λ r. ⌜ r ≡ fitsSize b c ⌝ }
+{
+    if b == 1 {
+        return c < 256;
+    }
+    if b == 2 {
+        return c < 65536;
+    }
+    true
+}

@@ -1,0 +1,2 @@
+-- Laws of what is given.
+pub mod Laws

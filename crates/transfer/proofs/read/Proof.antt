@@ -1,0 +1,39 @@
+use mathlib.Core.Path.{sym, ap, ap₂, _∙_, refl}
+use denote.Ref.{now}
+use Rattle.transfer.proofs.Laws.{regive, turned}
+use Rattle.model.specs.step.Machine.{After, carried, readFrom, writeTo, readStep, writeStep, operate, checked, stepped, started, startedBy}
+use Rattle.model.specs.declared.Access.{Access}
+use Rattle.model.specs.declared.Size.{Size}
+use Rattle.model.specs.declared.Kind.{Kind}
+use Rattle.model.specs.declared.Check.{Check}
+use Rattle.model.specs.declared.Answer.the-variants.{Done}
+use Prim.Native.Nat.{ℕ}
+use mathlib.Core.List.{List}
+use borrow.Author.Needs.{needs}
+use Rattle.transfer.proofs.read.Statement.{statement}
+use Rattle.transfer.proofs.read.Tie as tie
+use Rattle.transfer.proofs.read.Reads as reads
+use Rattle.transfer.proofs.read.Lts as lts
+use Rattle.access.proofs.access_at.Reads as access-at-reads
+use Rattle.transfer.proofs.read_from.Reads as read-from-reads
+
+-- src/lib.rt:124:9
+access-at-requires : tie.Need-access-at-requires
+access-at-requires c κs = search needs
+
+-- src/lib.rt:125:5
+read-from-requires : tie.Need-read-from-requires
+read-from-requires c κs = search needs
+
+-- src/lib.rt:121:1
+same-length : tie.Need-same-length
+same-length c = search needs
+
+-- src/lib.rt:121:1
+returns : tie.Need-returns
+unfolding readStep
+returns c = let k = c .before .before in let x = k .before .before in let a = x .before .before .before .before .args in
+    regive _ _ _ _ _ (ap (λ (z : Access). readFrom z (a .size) (a .r) (now (a .m)) (now (a .t))) (x .access-at .ensures)) (k .read-from .ensures)
+
+pub read-spec : {M : Type 1} → statement M
+read-spec = tie.close (tie.spec access-at-requires read-from-requires same-length returns)

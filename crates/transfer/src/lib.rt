@@ -1,0 +1,103 @@
+// Reads and writes carried out, and noting, which follows whatever is carried out.
+ghost use mathlib.Core.Path.{_≡_};
+ghost use Rattle.model.specs.step.Machine.{Gives, carried, valueOf, readFrom, writeTo, readStep, writeStep};
+ghost use Rattle.model.specs.step.Memory.{writtenAt};
+ghost use Rattle.model.specs.step.Track.{noteTrack};
+use access::access_at;
+use model::Access;
+use model::Answer;
+use model::Loaded;
+use model::Refusal;
+use model::Registers;
+use model::Returned;
+use model::Size;
+
+// The number that loading found.
+fn value_of(x: Loaded) -> u32
+    ensures { λ r. ⌜ r ≡ valueOf x ⌝ }
+{
+    match x {
+        Loaded::Value(v) => v,
+        Loaded::Outside => 0,
+    }
+}
+
+// Carried out: the track is noted with the registers and the memory left.
+pub fn carry(x: Answer, r: Registers, m: &[u8], t: &mut [u32]) -> Returned
+    ensures { λ y. ⌜ Gives (carried x r (now (m .entry)) (now (t .entry))) y (now (m .entry)) (now (t .exit)) ⌝ }
+{
+    track::note(m, r.root, t, r.context as usize);
+    Returned {
+        answer: x,
+        registers: r,
+    }
+}
+
+// Stores, then notes with the memory that is left.
+fn store_and_note(
+    at: usize,
+    size: Size,
+    v: u32,
+    root: u32,
+    context: u32,
+    m: &mut [u8],
+    t: &mut [u32],
+)
+    ensures { λ _. ⌜ (now (m .exit) ≡ writtenAt size (now (m .entry)) at v) × (now (t .exit) ≡ noteTrack (now (m .exit)) root context (now (t .entry))) ⌝ }
+{
+    memory::store(m, at, size, v);
+    track::note(m, root, t, context as usize);
+}
+
+// A read, by what its access comes to.
+fn read_from(x: Access, size: Size, r: Registers, m: &[u8], t: &mut [u32]) -> Returned
+    ensures { λ y. ⌜ Gives (readFrom x size r (now (m .entry)) (now (t .entry))) y (now (m .entry)) (now (t .exit)) ⌝ }
+{
+    match x {
+        Access::Stale => Returned {
+            answer: Answer::Refused(Refusal::StalePage),
+            registers: r,
+        },
+        Access::Fails(f) => carry(Answer::Faulted(f), r, m, t),
+        Access::Physical(p) => {
+            let v = value_of(memory::load(m, p, size));
+            carry(Answer::Done(v), r, m, t)
+        }
+    }
+}
+
+// A write, by what its access comes to.
+fn write_to(x: Access, size: Size, v: u32, r: Registers, m: &mut [u8], t: &mut [u32]) -> Returned
+    ensures { λ y. ⌜ Gives (writeTo x size v r (now (m .entry)) (now (t .entry))) y (now (m .exit)) (now (t .exit)) ⌝ }
+{
+    match x {
+        Access::Stale => Returned {
+            answer: Answer::Refused(Refusal::StalePage),
+            registers: r,
+        },
+        Access::Fails(why) => carry(Answer::Faulted(why), r, m, t),
+        Access::Physical(p) => {
+            store_and_note(p, size, v, r.root, r.context, m, t);
+            Returned {
+                answer: Answer::Done(0),
+                registers: r,
+            }
+        }
+    }
+}
+
+// A read whose fields have passed the checks.
+pub fn read(a: u32, size: Size, r: Registers, m: &[u8], t: &mut [u32]) -> Returned
+    ensures { λ y. ⌜ Gives (readStep a size r (now (m .entry)) (now (t .entry))) y (now (m .entry)) (now (t .exit)) ⌝ }
+{
+    let x = access_at(r, m, t, false, size, a);
+    read_from(x, size, r, m, t)
+}
+
+// A write whose fields have passed the checks.
+pub fn write(a: u32, size: Size, v: u32, r: Registers, m: &mut [u8], t: &mut [u32]) -> Returned
+    ensures { λ y. ⌜ Gives (writeStep a size v r (now (m .entry)) (now (t .entry))) y (now (m .exit)) (now (t .exit)) ⌝ }
+{
+    let x = access_at(r, m, t, true, size, a);
+    write_to(x, size, v, r, m, t)
+}
