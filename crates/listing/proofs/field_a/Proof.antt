@@ -1,0 +1,54 @@
+use Rattle.listing.specs.Line.{fieldA}
+use Rattle.listing.proofs.LineLaws.{was-true, was-false}
+use borrow.Author.Needs.{needs}
+use Rattle.listing.proofs.field_a.Statement.{statement}
+use Rattle.listing.proofs.field_a.Tie as tie
+use Rattle.listing.proofs.field_a.Reads as reads
+use Rattle.listing.proofs.field_a.Lts as lts
+use Rattle.listing.proofs.field_b.Reads as field-b-reads
+use Rattle.text.proofs.has.Reads as has-reads
+use Rattle.text.proofs.past.Reads as past-reads
+use Rattle.text.proofs.read_value.Reads as read-value-reads
+use Rattle.text.proofs.until.Reads as until-reads
+
+-- src/lib.rt:155:9
+has-requires : tie.Need-has-requires
+has-requires c κs = search needs
+
+-- src/lib.rt:156:9
+returns : tie.Need-returns
+unfolding fieldA
+returns c = rw (was-false (c .before .has .ensures) (c .if1 .taken))
+
+-- src/lib.rt:158:33
+until-requires : tie.Need-until-requires
+until-requires c κs = search needs
+
+-- src/lib.rt:158:16
+read-value-requires : tie.Need-read-value-requires
+read-value-requires c κs = search needs
+
+-- src/lib.rt:158:56
+past-requires : tie.Need-past-requires
+past-requires c κs = search needs
+
+-- src/lib.rt:158:5
+field-b-requires : tie.Need-field-b-requires
+field-b-requires c κs = search needs
+
+-- src/lib.rt:152:1
+returns-2 : tie.Need-returns-2
+unfolding fieldA
+returns-2 c = rw (was-true (c .before .before .before .before .before .has .ensures) (c .before .before .before .before .if1 .left)) cc
+
+pub field-a-spec : {M : Type 1} → statement M
+field-a-spec =
+    tie.close
+    (tie.spec
+    has-requires
+    returns
+    until-requires
+    read-value-requires
+    past-requires
+    field-b-requires
+    returns-2)

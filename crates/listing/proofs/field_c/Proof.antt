@@ -1,0 +1,36 @@
+use mathlib.Core.Path.{sym, _∙_}
+use Rattle.listing.specs.Line.{fieldC}
+use borrow.Author.Needs.{needs}
+use Rattle.listing.proofs.field_c.Statement.{statement}
+use Rattle.listing.proofs.field_c.Tie as tie
+use Rattle.listing.proofs.field_c.Reads as reads
+use Rattle.listing.proofs.field_c.Lts as lts
+use Rattle.listing.proofs.with_values.Reads as with-values-reads
+use Rattle.text.proofs.has.Reads as has-reads
+use Rattle.text.proofs.read_value.Reads as read-value-reads
+
+-- src/lib.rt:137:8
+has-requires : tie.Need-has-requires
+has-requires c κs = search needs
+
+-- src/lib.rt:138:9
+returns : tie.Need-returns
+unfolding fieldC
+returns c = rw (sym (c .before .has .ensures) ∙ c .if1 .taken)
+
+-- src/lib.rt:140:26
+read-value-requires : tie.Need-read-value-requires
+read-value-requires c κs = search needs
+
+-- src/lib.rt:140:5
+with-values-requires : tie.Need-with-values-requires
+with-values-requires c κs = search needs
+
+-- src/lib.rt:134:1
+returns-2 : tie.Need-returns-2
+unfolding fieldC
+returns-2 c = rw (sym (c .before .before .before .has .ensures) ∙ c .before .before .if1 .left) cc
+
+pub field-c-spec : {M : Type 1} → statement M
+field-c-spec =
+    tie.close (tie.spec has-requires returns read-value-requires with-values-requires returns-2)

@@ -1,0 +1,35 @@
+use Rattle.listing.specs.Line.{lineOf}
+use Rattle.listing.proofs.LineLaws.{was-true, was-false}
+use borrow.Author.Needs.{needs}
+use Rattle.listing.proofs.read_line.Statement.{statement}
+use Rattle.listing.proofs.read_line.Tie as tie
+use Rattle.listing.proofs.read_line.Reads as reads
+use Rattle.listing.proofs.read_line.Lts as lts
+use Rattle.listing.proofs.fields.Reads as fields-reads
+use Rattle.text.proofs.has.Reads as has-reads
+use Rattle.text.proofs.until.Reads as until-reads
+
+-- src/lib.rt:174:9
+has-requires : tie.Need-has-requires
+has-requires c κs = search needs
+
+-- src/lib.rt:175:9
+returns : tie.Need-returns
+unfolding lineOf
+returns c = rw (was-false (c .before .has .ensures) (c .if1 .taken))
+
+-- src/lib.rt:177:12
+until-requires : tie.Need-until-requires
+until-requires c κs = search needs
+
+-- src/lib.rt:177:5
+fields-requires : tie.Need-fields-requires
+fields-requires c κs = search needs
+
+-- src/lib.rt:171:1
+returns-2 : tie.Need-returns-2
+unfolding lineOf
+returns-2 c = rw (was-true (c .before .before .before .has .ensures) (c .before .before .if1 .left)) cc
+
+pub read-line-spec : {M : Type 1} → statement M
+read-line-spec = tie.close (tie.spec has-requires returns until-requires fields-requires returns-2)

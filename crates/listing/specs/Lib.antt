@@ -1,0 +1,3 @@
+-- A list: a line, the whole.
+pub mod Line
+pub mod Whole

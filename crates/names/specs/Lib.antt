@@ -1,0 +1,2 @@
+-- The names that lists and reports have in common.
+pub mod Names

@@ -1,0 +1,43 @@
+-- The bytes of a list: separators, the names line, and the names of the operations, which are compared with and written.
+use Prim.Native.Nat.{ℕ}
+use mathlib.Core.Bool.{cond}
+use mathlib.Core.List.{List, [], _∷_}
+use Rattle.text.specs.Split.{same}
+use Rattle.model.specs.declared.Kind.{Kind}
+use Rattle.model.specs.declared.Kind.the-variants.{Read, Write, Root, Asid, Mode, All, Addr, Ctx, AddrCtx}
+use Rattle.names.specs.declared.Named.{Named}
+use Rattle.names.specs.declared.Named.the-variants.{Known, Nothing}
+
+abbrev pub comma : ℕ
+comma = 44
+
+abbrev pub newline : ℕ
+newline = 10
+
+-- `op,a,b,c`
+abbrev pub names : List ℕ
+names = 111 ∷ 112 ∷ 44 ∷ 97 ∷ 44 ∷ 98 ∷ 44 ∷ 99 ∷ []
+
+-- the name of an operation: `read`, `write`, `root`, `asid`, `mode`, `all`, `addr`, `ctx`, `addrctx`
+abbrev pub name : Kind → List ℕ
+name Read = 114 ∷ 101 ∷ 97 ∷ 100 ∷ []
+name Write = 119 ∷ 114 ∷ 105 ∷ 116 ∷ 101 ∷ []
+name Root = 114 ∷ 111 ∷ 111 ∷ 116 ∷ []
+name Asid = 97 ∷ 115 ∷ 105 ∷ 100 ∷ []
+name Mode = 109 ∷ 111 ∷ 100 ∷ 101 ∷ []
+name All = 97 ∷ 108 ∷ 108 ∷ []
+name Addr = 97 ∷ 100 ∷ 100 ∷ 114 ∷ []
+name Ctx = 99 ∷ 116 ∷ 120 ∷ []
+name AddrCtx = 97 ∷ 100 ∷ 100 ∷ 114 ∷ 99 ∷ 116 ∷ 120 ∷ []
+
+-- the operations, in the order of the rules
+abbrev pub kinds : List Kind
+kinds = Read ∷ Write ∷ Root ∷ Asid ∷ Mode ∷ All ∷ Addr ∷ Ctx ∷ AddrCtx ∷ []
+
+-- the operation among ks that a name names
+unfoldable pub namedIn : List Kind → List ℕ → Named
+namedIn [] s = Nothing
+namedIn (k ∷ ks) s = cond (same s (name k)) (Known k) (namedIn ks s)
+
+abbrev pub namedOf : List ℕ → Named
+namedOf s = namedIn kinds s

@@ -1,0 +1,5 @@
+-- Laws of the report.
+pub mod RowsLaws
+pub mod Running
+pub mod ReportLaws
+pub mod ShownLaws

@@ -1,0 +1,158 @@
+use Prim.Native.Nat.{ℕ, _+_, _*_, _≤_}
+use mathlib.Core.Path.{_≡_, refl, ap, sym, _∙_}
+use mathlib.Core.List.{List}
+use native.Mathlib.Omega.{arith}
+use lib.ListN.{length}
+use denote.Ref.{now}
+use Rattle.model.specs.Numbers.{refused, refusalNumber}
+use Rattle.model.specs.step.Machine.{started}
+use Rattle.listing.specs.Whole.{readList}
+use Rattle.rows.specs.Text.{startName, rowText}
+use Rattle.report.specs.Report.{bodyOf}
+use Rattle.report.proofs.ReportLaws.{ran-same, ran-ended, carried-from, body-refused, body-done, body-faulted}
+use borrow.Author.Needs.{needs}
+use Rattle.report.proofs.body.Statement.{statement}
+use Rattle.report.proofs.body.Tie as tie
+use Rattle.report.proofs.body.Reads as reads
+use Rattle.report.proofs.body.Lts as lts
+use Rattle.checks.proofs.refusal_number.Reads as refusal-number-reads
+use Rattle.machine.proofs.start.Reads as start-reads
+use Rattle.report.proofs.read_list.Reads as read-list-reads
+use Rattle.rows.proofs.put_start.Reads as put-start-reads
+
+-- src/lib.rt:81:9
+start-requires : tie.Need-start-requires
+start-requires c κs = search needs
+
+-- src/lib.rt:85:25
+enum-known-answer : tie.Need-enum-known-answer
+enum-known-answer c = search needs
+
+-- src/lib.rt:85:56
+refusal-number-requires : tie.Need-refusal-number-requires
+refusal-number-requires c κs = search needs
+
+-- src/lib.rt:85:31
+put-start-requires : tie.Need-put-start-requires
+put-start-requires c κs = search needs
+
+-- src/lib.rt:86:41
+enum-told : tie.Need-enum-told
+enum-told c = search needs
+
+-- src/lib.rt:86:28
+read-list-requires : tie.Need-read-list-requires
+read-list-requires c κs = search needs
+
+-- src/lib.rt:87:44
+enum-told-2 : tie.Need-enum-told-2
+enum-told-2 c = search needs
+
+-- src/lib.rt:87:31
+read-list-requires-2 : tie.Need-read-list-requires-2
+read-list-requires-2 c κs = search needs
+
+-- src/lib.rt:77:1
+same-length : tie.Need-same-length
+same-length c = search needs
+
+-- src/lib.rt:77:1
+same-length-2 : tie.Need-same-length-2
+same-length-2 c = search needs
+
+-- src/lib.rt:77:1
+same-length-3 : tie.Need-same-length-3
+same-length-3 c = search needs
+
+-- src/lib.rt:77:1
+returns : tie.Need-returns
+returns c =
+    let w = c .before .before in
+    let n = w .before in
+    let e = n .before .before .before in
+    let g = c .before .before .before .before .before .before .before .before .before .before .before in
+    let a = c .before .before .before .before .before .before .before .before .before .before .before .before .before .before .before .before .before .before .args in
+    let m = now (a .m) in
+    let t = now (a .t) in
+    let l = now (a .list) in
+    let k = e .answer .given .0 .0 in
+    ran-ended (bodyOf m t l) (rowText 0 startName (refused (refusalNumber k))) (started m t 0)
+    (body-refused m t l k (sym (g .start .ensures .answer) ∙ e .answer .given .1)) (g .start .ensures .memory) (g .start .ensures .track) (omega (arith, c .before .before .before .before .before .before .before .before .before .before .before .before .before .before .before .before .before .before .pre))
+    (rw (sym (n .refusal-number .ensures .0)) (w .put-start .ensures))
+
+-- src/lib.rt:77:1
+same-length-4 : tie.Need-same-length-4
+same-length-4 c = search needs
+
+-- src/lib.rt:77:1
+same-length-5 : tie.Need-same-length-5
+same-length-5 c = search needs
+
+-- src/lib.rt:77:1
+same-length-6 : tie.Need-same-length-6
+same-length-6 c = search needs
+
+-- src/lib.rt:77:1
+returns-2 : tie.Need-returns-2
+returns-2 c =
+    let w = c .before .before .before .before .before .before in
+    let e = c .before .before .before .before .before .before .before .before .before .before in
+    let g = c .before .before .before .before .before .before .before .before .before .before .before .before .before .before .before in
+    let a = c .before .before .before .before .before .before .before .before .before .before .before .before .before .before .before .before .before .before .before .before .before .before .args in
+    let m = now (a .m) in
+    let t = now (a .t) in
+    let l = now (a .list) in
+    ran-same _ _
+    (carried-from (started m t 0) _ _ _ (readList l) (g .start .ensures .registers) (g .start .ensures .memory) (g .start .ensures .track)
+    ∙ sym (body-done m t l _ (sym (g .start .ensures .answer) ∙ e .enum-told .given .1))) (w .read-list .ensures)
+
+-- src/lib.rt:77:1
+same-length-7 : tie.Need-same-length-7
+same-length-7 c = search needs
+
+-- src/lib.rt:77:1
+same-length-8 : tie.Need-same-length-8
+same-length-8 c = search needs
+
+-- src/lib.rt:77:1
+same-length-9 : tie.Need-same-length-9
+same-length-9 c = search needs
+
+-- src/lib.rt:77:1
+returns-3 : tie.Need-returns-3
+returns-3 c =
+    let w = c .before .before .before .before .before .before in
+    let e = c .before .before .before .before .before .before .before .before .before .before in
+    let g = c .before .before .before .before .before .before .before .before .before .before .before .before .before .before .before in
+    let a = c .before .before .before .before .before .before .before .before .before .before .before .before .before .before .before .before .before .before .before .before .before .before .args in
+    let m = now (a .m) in
+    let t = now (a .t) in
+    let l = now (a .list) in
+    ran-same _ _
+    (carried-from (started m t 0) _ _ _ (readList l) (g .start .ensures .registers) (g .start .ensures .memory) (g .start .ensures .track)
+    ∙ sym (body-faulted m t l _ (sym (g .start .ensures .answer) ∙ e .enum-told2 .given .1))) (w .read-list2 .ensures)
+
+pub body-spec : {M : Type 1} → statement M
+body-spec =
+    tie.close
+    (tie.spec
+    start-requires
+    enum-known-answer
+    refusal-number-requires
+    put-start-requires
+    enum-told
+    read-list-requires
+    enum-told-2
+    read-list-requires-2
+    same-length
+    same-length-2
+    same-length-3
+    returns
+    same-length-4
+    same-length-5
+    same-length-6
+    returns-2
+    same-length-7
+    same-length-8
+    same-length-9
+    returns-3)

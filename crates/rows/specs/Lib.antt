@@ -1,0 +1,2 @@
+-- The lines of a report.
+pub mod Text
