@@ -1,4 +1,8 @@
-use mathlib.Core.Path.{sym, _∙_}
+use mathlib.Core.Path.{_≡_, sym, _∙_}
+use mathlib.Core.Bool.{true, false}
+use denote.Ref.{now}
+use Rattle.text.specs.Split.{has}
+use Rattle.names.specs.Names.{comma}
 use Rattle.listing.specs.Line.{fieldC}
 use borrow.Author.Needs.{needs}
 use Rattle.listing.proofs.field_c.Statement.{statement}
@@ -16,7 +20,9 @@ has-requires c κs = search needs
 -- src/lib.rt:138:9
 returns : tie.Need-returns
 unfolding fieldC
-returns c = rw (sym (c .before .has .ensures) ∙ c .if1 .taken)
+returns c =
+    let h : has comma (now (c .before .before .before .args .l)) ≡ true = sym (c .before .has .ensures) ∙ c .if1 .taken in
+    rw h
 
 -- src/lib.rt:140:26
 read-value-requires : tie.Need-read-value-requires
@@ -29,7 +35,9 @@ with-values-requires c κs = search needs
 -- src/lib.rt:134:1
 returns-2 : tie.Need-returns-2
 unfolding fieldC
-returns-2 c = rw (sym (c .before .before .before .has .ensures) ∙ c .before .before .if1 .left) cc
+returns-2 c =
+    let h : has comma (now (c .before .before .before .before .before .args .l)) ≡ false = sym (c .before .before .before .has .ensures) ∙ c .before .before .if1 .left in
+    rw h cc
 
 pub field-c-spec : {M : Type 1} → statement M
 field-c-spec =

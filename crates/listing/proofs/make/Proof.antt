@@ -1,6 +1,7 @@
-use mathlib.Core.Path.{sym}
-use Rattle.listing.specs.Line.{opOf, zeros}
-use Rattle.listing.proofs.LineLaws.{was-true, was-false}
+use mathlib.Core.Path.{_≡_, sym}
+use mathlib.Core.Bool.{true, false}
+use Rattle.listing.specs.Line.{used, spare}
+use Rattle.listing.proofs.LineLaws.{op-first, op-second, op-third, op-good, was-true, was-false}
 use borrow.Author.Needs.{needs}
 use Rattle.listing.proofs.make.Statement.{statement}
 use Rattle.listing.proofs.make.Tie as tie
@@ -17,10 +18,22 @@ used-requires c κs = search needs
 spare-requires : tie.Need-spare-requires
 spare-requires c κs = search needs
 
+-- what the test of the first field says, and of the second and the third
+first-left : (c : tie.Else1) → let a = c .before .before .before .args in spare (used (a .k)) 0 (a .a) ≡ true
+first-left c = rw (sym (c .before .before .used .ensures)) (was-true (c .before .spare .ensures) (c .if1 .left))
+
+second-left : (c : tie.Else2) → let a = c .before .before .before .before .before .args in spare (used (a .k)) 1 (a .b) ≡ true
+second-left c = rw (sym (c .before .before .before .before .used .ensures)) (was-true (c .before .spare2 .ensures) (c .if2 .left))
+
+third-left : (c : tie.Else3) → let a = c .before .before .before .before .before .before .before .args in spare (used (a .k)) 2 (a .c) ≡ true
+third-left c = rw (sym (c .before .before .before .before .before .before .used .ensures)) (was-true (c .before .spare3 .ensures) (c .if3 .left))
+
 -- src/lib.rt:99:9
 returns : tie.Need-returns
-unfolding opOf zeros
-returns c = rw (sym (c .before .before .used .ensures), was-false (c .before .spare .ensures) (c .if1 .taken))
+returns c =
+    let a = c .before .before .before .args in
+    let h : spare (used (a .k)) 0 (a .a) ≡ false = rw (sym (c .before .before .used .ensures)) (was-false (c .before .spare .ensures) (c .if1 .taken)) in
+    op-first (a .k) (a .a) (a .b) (a .c) h
 
 -- src/lib.rt:101:9
 spare-requires-2 : tie.Need-spare-requires-2
@@ -28,8 +41,11 @@ spare-requires-2 c κs = search needs
 
 -- src/lib.rt:102:9
 returns-2 : tie.Need-returns-2
-unfolding opOf zeros
-returns-2 c = rw (sym (c .before .before .before .before .used .ensures), was-true (c .before .before .before .spare .ensures) (c .before .before .if1 .left), was-false (c .before .spare2 .ensures) (c .if2 .taken))
+returns-2 c =
+    let f = c .before .before in
+    let a = f .before .before .before .args in
+    let h : spare (used (a .k)) 1 (a .b) ≡ false = rw (sym (f .before .before .used .ensures)) (was-false (c .before .spare2 .ensures) (c .if2 .taken)) in
+    op-second (a .k) (a .a) (a .b) (a .c) (first-left f) h
 
 -- src/lib.rt:104:9
 spare-requires-3 : tie.Need-spare-requires-3
@@ -37,13 +53,20 @@ spare-requires-3 c κs = search needs
 
 -- src/lib.rt:105:9
 returns-3 : tie.Need-returns-3
-unfolding opOf zeros
-returns-3 c = rw (sym (c .before .before .before .before .before .before .used .ensures), was-true (c .before .before .before .before .before .spare .ensures) (c .before .before .before .before .if1 .left), was-true (c .before .before .before .spare2 .ensures) (c .before .before .if2 .left), was-false (c .before .spare3 .ensures) (c .if3 .taken))
+returns-3 c =
+    let s = c .before .before in
+    let f = s .before .before in
+    let a = f .before .before .before .args in
+    let h : spare (used (a .k)) 2 (a .c) ≡ false = rw (sym (f .before .before .used .ensures)) (was-false (c .before .spare3 .ensures) (c .if3 .taken)) in
+    op-third (a .k) (a .a) (a .b) (a .c) (first-left f) (second-left s) h
 
 -- src/lib.rt:94:1
 returns-4 : tie.Need-returns-4
-unfolding opOf zeros
-returns-4 c = rw (sym (c .before .before .before .before .before .before .used .ensures), was-true (c .before .before .before .before .before .spare .ensures) (c .before .before .before .before .if1 .left), was-true (c .before .before .before .spare2 .ensures) (c .before .before .if2 .left), was-true (c .before .spare3 .ensures) (c .if3 .left))
+returns-4 c =
+    let s = c .before .before in
+    let f = s .before .before in
+    let a = f .before .before .before .args in
+    op-good (a .k) (a .a) (a .b) (a .c) (first-left f) (second-left s) (third-left c)
 
 pub make-spec : {M : Type 1} → statement M
 make-spec =

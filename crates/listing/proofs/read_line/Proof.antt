@@ -1,3 +1,8 @@
+use mathlib.Core.Path.{_≡_}
+use mathlib.Core.Bool.{true, false}
+use denote.Ref.{now}
+use Rattle.text.specs.Split.{has}
+use Rattle.names.specs.Names.{newline}
 use Rattle.listing.specs.Line.{lineOf}
 use Rattle.listing.proofs.LineLaws.{was-true, was-false}
 use borrow.Author.Needs.{needs}
@@ -16,7 +21,9 @@ has-requires c κs = search needs
 -- src/lib.rt:175:9
 returns : tie.Need-returns
 unfolding lineOf
-returns c = rw (was-false (c .before .has .ensures) (c .if1 .taken))
+returns c =
+    let h : has newline (now (c .before .before .before .args .list)) ≡ false = was-false (c .before .has .ensures) (c .if1 .taken) in
+    rw h
 
 -- src/lib.rt:177:12
 until-requires : tie.Need-until-requires
@@ -29,7 +36,9 @@ fields-requires c κs = search needs
 -- src/lib.rt:171:1
 returns-2 : tie.Need-returns-2
 unfolding lineOf
-returns-2 c = rw (was-true (c .before .before .before .has .ensures) (c .before .before .if1 .left)) cc
+returns-2 c =
+    let h : has newline (now (c .before .before .before .before .before .args .list)) ≡ true = was-true (c .before .before .before .has .ensures) (c .before .before .if1 .left) in
+    rw h cc
 
 pub read-line-spec : {M : Type 1} → statement M
 read-line-spec = tie.close (tie.spec has-requires returns until-requires fields-requires returns-2)

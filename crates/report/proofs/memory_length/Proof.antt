@@ -1,3 +1,7 @@
+use mathlib.Core.Path.{_≡_}
+use mathlib.Core.Bool.{true, false}
+use lib.Dec.{leb}
+use Rattle.report.specs.Report.{imageLimit}
 use borrow.Author.Tests.{le-leb, lt-leb}
 use Rattle.report.proofs.memory_length.Statement.{statement}
 use Rattle.report.proofs.memory_length.Tie as tie
@@ -6,11 +10,15 @@ use Rattle.report.proofs.memory_length.Lts as lts
 
 -- src/lib.rt:27:9
 returns : tie.Need-returns
-returns c = simp (le-leb _ _ (c .if1 .taken))
+returns c =
+    let h : leb (c .before .args .n) imageLimit ≡ true = le-leb _ _ (c .if1 .taken) in
+    simp h
 
 -- src/lib.rt:23:1
 returns-2 : tie.Need-returns-2
-returns-2 c = simp (lt-leb _ _ (c .if1 .left))
+returns-2 c =
+    let h : leb (c .before .args .n) imageLimit ≡ false = lt-leb _ _ (c .if1 .left) in
+    simp h
 
 pub memory-length-spec : {M : Type 1} → statement M
 memory-length-spec = tie.close (tie.spec returns returns-2)

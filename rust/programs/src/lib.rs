@@ -1,0 +1,91 @@
+//! Runs the built programs of the repository under the toolchain's loader and C library.
+use std::io::Write;
+use std::path::{Path, PathBuf};
+use std::process::{Command, Stdio};
+use std::sync::atomic::{AtomicUsize, Ordering};
+use std::{env, fs, process, thread};
+
+/// The toolchain's folder: `RATTLE_HOME`, or two levels above the `rt` on PATH, links followed.
+fn kit() -> PathBuf {
+    if let Some(home) = env::var_os("RATTLE_HOME") {
+        return PathBuf::from(home);
+    }
+    let path = env::var_os("PATH").expect("PATH is not set");
+    let rt = env::split_paths(&path)
+        .map(|folder| folder.join("rt"))
+        .find(|file| file.is_file())
+        .expect("rt is not on PATH");
+    let rt = rt.canonicalize().expect("rt's links lead nowhere");
+    rt.ancestors()
+        .nth(2)
+        .expect("rt stands in no folder of a toolchain")
+        .to_path_buf()
+}
+
+/// A built program, to be run in `folder`.
+fn program(name: &str, folder: &Path) -> Command {
+    let tools = kit().join("on").join(env::consts::ARCH).join("toolchain");
+    let loader = tools.join("lib/ld-linux-x86-64.so.2");
+    let emulator = tools.join("bin/qemu-x86_64");
+    let built = Path::new(env!("CARGO_MANIFEST_DIR"))
+        .join("../../target/bin")
+        .join(name);
+    let built = built
+        .canonicalize()
+        .unwrap_or_else(|_| panic!("{name} is not built: run `rt check {name}`"));
+    let mut command = if emulator.is_file() {
+        let mut command = Command::new(emulator);
+        command.arg(loader);
+        command
+    } else {
+        Command::new(loader)
+    };
+    command
+        .arg("--library-path")
+        .arg(tools.join("lib"))
+        .arg(built)
+        .current_dir(folder);
+    command
+}
+
+/// A folder of its own for each run, removed when it is dropped.
+struct Folder(PathBuf);
+
+impl Folder {
+    fn new() -> Folder {
+        static NEXT: AtomicUsize = AtomicUsize::new(0);
+        let n = NEXT.fetch_add(1, Ordering::Relaxed);
+        let folder = env::temp_dir().join(format!("programs-{}-{n}", process::id()));
+        fs::create_dir_all(&folder).expect("a temporary folder");
+        Folder(folder)
+    }
+}
+
+impl Drop for Folder {
+    fn drop(&mut self) {
+        let _ = fs::remove_dir_all(&self.0);
+    }
+}
+
+/// Runs `replay` on a list and, where there is one, an image, and returns what it printed.
+pub fn replay(list: &[u8], image: Option<&[u8]>) -> Vec<u8> {
+    let folder = Folder::new();
+    if let Some(bytes) = image {
+        fs::write(folder.0.join("image.bin"), bytes).expect("the image");
+    }
+    let mut child = program("replay", &folder.0)
+        .stdin(Stdio::piped())
+        .stdout(Stdio::piped())
+        .spawn()
+        .expect("replay starts");
+    let mut input = child.stdin.take().expect("standard input is a pipe");
+    let list = list.to_vec();
+    // The program stops reading a list that is too long, so that writing the rest of it may fail.
+    let feed = thread::spawn(move || {
+        let _ = input.write_all(&list);
+    });
+    let output = child.wait_with_output().expect("replay ends");
+    feed.join().expect("the list is written");
+    assert!(output.status.success(), "replay: {:?}", output.status);
+    output.stdout
+}

@@ -1,0 +1,108 @@
+//! The program on the listing of the rules, and at the edges of a list and an image.
+use programs::replay;
+
+const HEADER: &str = "line,op,answer,value\n";
+const NAMES: &str = "op,a,b,c\n";
+
+/// Image A: 32,768 bytes, zero but for five words.
+fn image_a() -> Vec<u8> {
+    let mut image = vec![0; 32_768];
+    for (at, word) in [
+        (0x0, 0x401_u32),
+        (0x400, 0x812),
+        (0x404, 0x3832),
+        (0x3000, 0x1234_5678),
+        (0x4000, 0x1122_3344),
+    ] {
+        image[at..at + 4].copy_from_slice(&word.to_le_bytes());
+    }
+    image
+}
+
+/// The report of a list on image A, without its header.
+fn lines(list: &str) -> String {
+    behind_header(&replay(list.as_bytes(), Some(&image_a())))
+}
+
+fn behind_header(report: &[u8]) -> String {
+    let report = String::from_utf8(report.to_vec()).expect("a report is ASCII");
+    let rest = report.strip_prefix(HEADER).expect("the header comes first");
+    rest.to_string()
+}
+
+#[test]
+fn the_listing() {
+    let list = "read,1000,4,0\nwrite,404,4,4832\nread,1000,4,0\naddr,1000,0,0\nread,1000,4,0\n\
+                read,1002,4,0\nread,2000,1,0\nmode,1,0,0\nread,404,4,0\nall,0,0,0\n";
+    let report = "2,read,ok,12345678\n3,write,ok,0\n4,read,refused,10\n5,addr,ok,0\n\
+                  6,read,ok,11223344\n7,read,fault,1\n8,read,fault,3\n9,mode,ok,0\n\
+                  a,read,fault,4\nb,all,refused,f\n";
+    assert_eq!(lines(&format!("{NAMES}{list}")), report);
+}
+
+#[test]
+fn the_empty_list_and_names_alone() {
+    assert_eq!(lines(""), "1,-,refused,2\n");
+    assert_eq!(lines("op,a,b,c"), "1,-,refused,2\n");
+    assert_eq!(lines(NAMES), "");
+}
+
+#[test]
+fn a_start_without_an_image() {
+    let long = vec![b'x'; 65_537];
+    for list in [NAMES.as_bytes(), &long] {
+        assert_eq!(behind_header(&replay(list, None)), "0,start,refused,d\n");
+    }
+}
+
+#[test]
+fn an_image_at_its_limit() {
+    let full = vec![0; 32_768];
+    assert_eq!(behind_header(&replay(NAMES.as_bytes(), Some(&full))), "");
+    for length in [0, 4_095, 5_000, 32_769, 40_960] {
+        let image = vec![0; length];
+        let report = behind_header(&replay(NAMES.as_bytes(), Some(&image)));
+        assert_eq!(report, "0,start,refused,d\n", "{length} bytes");
+    }
+}
+
+#[test]
+fn a_list_at_its_limit() {
+    // 9 bytes of names, then lines of 10 and one of 17 bytes: 65,536 in all.
+    let most = format!(
+        "{NAMES}{}{}",
+        "all,0,0,0\n".repeat(6_551),
+        "read,1000,4,0\nxxx"
+    );
+    assert_eq!(most.len(), 65_536);
+    let report = lines(&most);
+    assert_eq!(report.lines().count(), 6_553);
+    assert_eq!(report.lines().last(), Some("199a,-,refused,3"));
+    assert_eq!(lines(&format!("{most}x")), "1,-,refused,1\n");
+}
+
+#[test]
+fn each_list_refusal_ends_the_report() {
+    for (line, number) in [
+        ("read,1000,4", 3),
+        ("read,1000,4,0,0", 3),
+        ("", 3),
+        ("foo,1", 3),
+        ("read,,4,0", 4),
+        ("read,01000,4,0", 4),
+        ("read,123456789,4,0", 4),
+        ("read,ABC,4,0", 4),
+        ("Read,XX,4,0", 4),
+        ("Read,1000,4,0", 5),
+        (",0,0,0", 5),
+        ("read,1000,4,1", 6),
+        ("all,1,0,0", 6),
+        ("addrctx,1000,0,1", 6),
+    ] {
+        let list = format!("{NAMES}mode,0,0,0\n{line}\nmode,0,0,0\n");
+        let report = format!("2,mode,ok,0\n3,-,refused,{number}\n");
+        assert_eq!(lines(&list), report, "{line}");
+    }
+    let unended = format!("{NAMES}mode,0,0,0\nmode,0,0,0");
+    assert_eq!(lines(&unended), "2,mode,ok,0\n3,-,refused,3\n");
+}
