@@ -1,9 +1,8 @@
 //! Runs the built programs of the repository under the toolchain's loader and C library.
-use std::io::Write;
 use std::path::{Path, PathBuf};
-use std::process::{Command, Stdio};
+use std::process::Command;
 use std::sync::atomic::{AtomicUsize, Ordering};
-use std::{env, fs, process, thread};
+use std::{env, fs, process};
 
 /// The toolchain's folder: `RATTLE_HOME`, or two levels above the `rt` on PATH, links followed.
 fn kit() -> PathBuf {
@@ -48,16 +47,24 @@ fn program(name: &str, folder: &Path) -> Command {
     command
 }
 
-/// A folder of its own for each run, removed when it is dropped.
-struct Folder(PathBuf);
+/// A folder of its own for a run, removed when it is dropped.
+pub struct Folder(PathBuf);
 
 impl Folder {
-    fn new() -> Folder {
+    /// A folder that holds `image.bin`, if there is one.
+    pub fn with_image(image: Option<&[u8]>) -> Folder {
         static NEXT: AtomicUsize = AtomicUsize::new(0);
         let n = NEXT.fetch_add(1, Ordering::Relaxed);
         let folder = env::temp_dir().join(format!("programs-{}-{n}", process::id()));
         fs::create_dir_all(&folder).expect("a temporary folder");
+        if let Some(bytes) = image {
+            fs::write(folder.join("image.bin"), bytes).expect("the image");
+        }
         Folder(folder)
+    }
+
+    pub fn path(&self) -> &Path {
+        &self.0
     }
 }
 
@@ -67,25 +74,20 @@ impl Drop for Folder {
     }
 }
 
-/// Runs `replay` on a list and, where there is one, an image, and returns what it printed.
-pub fn replay(list: &[u8], image: Option<&[u8]>) -> Vec<u8> {
-    let folder = Folder::new();
-    if let Some(bytes) = image {
-        fs::write(folder.0.join("image.bin"), bytes).expect("the image");
-    }
-    let mut child = program("replay", &folder.0)
-        .stdin(Stdio::piped())
-        .stdout(Stdio::piped())
-        .spawn()
-        .expect("replay starts");
-    let mut input = child.stdin.take().expect("standard input is a pipe");
-    let list = list.to_vec();
-    // The program stops reading a list that is too long, so that writing the rest of it may fail.
-    let feed = thread::spawn(move || {
-        let _ = input.write_all(&list);
-    });
-    let output = child.wait_with_output().expect("replay ends");
-    feed.join().expect("the list is written");
+/// Runs `replay` in a folder on the list in a file, and returns what it printed.
+pub fn replay_in(folder: &Folder, list: &Path) -> Vec<u8> {
+    let output = program("replay", folder.path())
+        .stdin(fs::File::open(list).expect("the list"))
+        .output()
+        .expect("replay runs");
     assert!(output.status.success(), "replay: {:?}", output.status);
     output.stdout
+}
+
+/// Runs `replay` on a list and, where there is one, an image, and returns what it printed.
+pub fn replay(list: &[u8], image: Option<&[u8]>) -> Vec<u8> {
+    let folder = Folder::with_image(image);
+    let file = folder.path().join("list");
+    fs::write(&file, list).expect("the list");
+    replay_in(&folder, &file)
 }

@@ -1,0 +1,78 @@
+//! The program against the model's report, on generated images and lists, whole and damaged.
+use compare::{cases, keep, Tally};
+use model::generate::{self, damaged};
+use model::list::report;
+use model::random::Random;
+
+/// A list, and sometimes something wrong with its bytes.
+fn list(random: &mut Random, memory: u32) -> Vec<u8> {
+    let length = random.below(120);
+    let operations: Vec<_> = (0..length).map(|_| damaged(random, 8, memory)).collect();
+    // Unused fields are 0 in the text of most lists.
+    let mut text = String::from("op,a,b,c\n");
+    for o in &operations {
+        let (_, name, used) = model::machine::KINDS[o.kind as usize];
+        let mut fields = [o.a, o.b, o.c];
+        if !random.one_in(60) {
+            fields[used..].fill(0);
+        }
+        let [a, b, c] = fields;
+        text.push_str(&format!("{name},{a:x},{b:x},{c:x}\n"));
+    }
+    let mut bytes = text.into_bytes();
+    let at = random.below(bytes.len() as u64) as usize;
+    match random.below(16) {
+        0 => bytes[at] = random.word() as u8,
+        1 => bytes[at] = *random.pick(b",\n0Aafgx-+ "),
+        2 => bytes.insert(at, *random.pick(b",\n0Aaf1")),
+        3 => bytes.truncate(at),
+        4 => drop(bytes.remove(at)),
+        5 => bytes.resize(65_537 + random.below(3) as usize, b'\n'),
+        _ => (),
+    }
+    bytes
+}
+
+fn image(random: &mut Random) -> Option<Vec<u8>> {
+    let mut image = generate::image(random);
+    match random.below(30) {
+        0 => return None,
+        1 => image.truncate(random.below(9000) as usize),
+        2 => image.resize(32_769, 0),
+        3 => image.resize(32_768, 0),
+        _ => (),
+    }
+    Some(image)
+}
+
+#[test]
+fn reports() {
+    let mut seen = Tally::new();
+    for (case, mut random) in cases(400) {
+        let image = image(&mut random);
+        let memory = image.as_ref().map_or(0, Vec::len) as u32;
+        let list = list(&mut random, memory);
+        let expected = report(image.as_deref(), &list);
+        let found = programs::replay(&list, image.as_deref());
+        if expected.as_bytes() != found {
+            let bytes = image.unwrap_or_default();
+            let files: [(&str, &[u8]); 4] = [
+                ("image.bin", &bytes),
+                ("list", &list),
+                ("expected", expected.as_bytes()),
+                ("found", &found),
+            ];
+            let folder = keep("report", case, &files);
+            panic!("the reports differ; they are in {}", folder.display());
+        }
+        for line in expected.lines().skip(1) {
+            let fields: Vec<&str> = line.split(',').collect();
+            let number = if fields[2] == "ok" { "" } else { fields[3] };
+            seen.add((fields[2].to_string(), number.to_string()));
+        }
+    }
+    let named = |word: &str, n: u32| (word.to_string(), format!("{n:x}"));
+    let faults = (1..=7).map(|n| named("fault", n));
+    let refusals = (1..=16).filter(|n| *n != 14).map(|n| named("refused", n));
+    seen.must_have("reports", faults.chain(refusals));
+}

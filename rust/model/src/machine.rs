@@ -1,0 +1,286 @@
+//! The machine: registers, what a TLB may remember, and the operations with their checks.
+use crate::walk::{number, walk, word, Entry, Fault};
+use std::collections::{BTreeMap, BTreeSet};
+
+#[derive(Clone, Copy, PartialEq, Eq, PartialOrd, Ord, Debug)]
+pub enum Kind {
+    Read,
+    Write,
+    Root,
+    Asid,
+    Mode,
+    All,
+    Addr,
+    Ctx,
+    AddrCtx,
+}
+
+/// The operations in the order of the rules, with their names and how many fields each uses.
+pub const KINDS: [(Kind, &str, usize); 9] = [
+    (Kind::Read, "read", 2),
+    (Kind::Write, "write", 3),
+    (Kind::Root, "root", 1),
+    (Kind::Asid, "asid", 1),
+    (Kind::Mode, "mode", 1),
+    (Kind::All, "all", 0),
+    (Kind::Addr, "addr", 1),
+    (Kind::Ctx, "ctx", 1),
+    (Kind::AddrCtx, "addrctx", 2),
+];
+
+#[derive(Clone, Copy, PartialEq, Eq, Debug)]
+pub struct Operation {
+    pub kind: Kind,
+    pub a: u32,
+    pub b: u32,
+    pub c: u32,
+}
+
+impl Operation {
+    pub fn is_access(&self) -> bool {
+        matches!(self.kind, Kind::Read | Kind::Write)
+    }
+
+    pub fn is_aligned(&self) -> bool {
+        matches!(self.b, 1 | 2 | 4) && self.a.is_multiple_of(self.b)
+    }
+}
+
+#[derive(Clone, Copy, PartialEq, Eq, Debug, Default)]
+pub struct Registers {
+    pub root: u32,
+    pub context: u32,
+    pub mode: u32,
+}
+
+#[derive(Clone, Copy, PartialEq, Eq, PartialOrd, Ord, Debug)]
+pub enum Answer {
+    Ok(u32),
+    Fault(Fault),
+    Refused(u32),
+}
+
+/// What the kernel and the user may do, by AP.
+const RIGHTS: [[&str; 2]; 8] = [
+    ["", ""],
+    ["rw", ""],
+    ["rw", "r"],
+    ["rw", "rw"],
+    ["", ""],
+    ["r", ""],
+    ["r", "r"],
+    ["r", "r"],
+];
+
+/// What an operation that is carried out does to memory and registers, given how its page is
+/// translated, which only an access looks at.
+pub fn effect(
+    memory: &mut [u8],
+    registers: &mut Registers,
+    operation: &Operation,
+    outcome: Result<Entry, Fault>,
+) -> Answer {
+    match operation.kind {
+        Kind::Root => registers.root = operation.a,
+        Kind::Asid => registers.context = operation.a,
+        Kind::Mode => registers.mode = operation.a,
+        Kind::Read | Kind::Write => {
+            return match access(memory, registers.mode, operation, outcome) {
+                Ok(value) => Answer::Ok(value),
+                Err(fault) => Answer::Fault(fault),
+            }
+        }
+        Kind::All | Kind::Addr | Kind::Ctx | Kind::AddrCtx => (),
+    }
+    Answer::Ok(0)
+}
+
+fn access(
+    memory: &mut [u8],
+    mode: u32,
+    operation: &Operation,
+    outcome: Result<Entry, Fault>,
+) -> Result<u32, Fault> {
+    if !operation.is_aligned() {
+        return Err(1);
+    }
+    let entry = outcome?;
+    let writes = operation.kind == Kind::Write;
+    let right = if writes { "w" } else { "r" };
+    if !RIGHTS[entry.ap as usize][mode as usize].contains(right) {
+        return Err(4);
+    }
+    let at = u64::from(entry.frame) << 12 | u64::from(operation.a & 0xFFF);
+    let size = operation.b as usize;
+    let value = number(memory, at, size).ok_or(7_u32)?;
+    if !writes {
+        return Ok(value);
+    }
+    let at = at as usize;
+    memory[at..at + size].copy_from_slice(&operation.c.to_le_bytes()[..size]);
+    Ok(0)
+}
+
+/// Whether a flush names what is remembered under a context and a page.
+pub fn flushes(operation: &Operation, context: u32, page: u32) -> bool {
+    let same_page = operation.a >> 12 == page;
+    match operation.kind {
+        Kind::All => true,
+        Kind::Addr => same_page,
+        Kind::Ctx => operation.a == context,
+        Kind::AddrCtx => same_page && operation.b == context,
+        _ => false,
+    }
+}
+
+/// What a TLB may remember for one context and page.
+#[derive(Clone, PartialEq, Eq, Debug)]
+pub enum Remembered {
+    These(BTreeSet<Entry>),
+    /// A track word that tells of no set: two entries or more, which ones is not known.
+    Several(u32),
+}
+
+/// The checker: memory, registers, and the sets that are not empty.
+#[derive(Clone, Debug)]
+pub struct Machine {
+    pub memory: Vec<u8>,
+    pub registers: Registers,
+    words: usize,
+    sets: BTreeMap<(u32, u32), Remembered>,
+}
+
+impl Machine {
+    /// A machine on lent memory, track and registers, whatever they are.
+    pub fn lent(memory: &[u8], track: &[u32], registers: Registers) -> Machine {
+        let mut sets = BTreeMap::new();
+        for (i, &found) in track.iter().enumerate() {
+            let entry = Entry {
+                frame: found >> 12,
+                ap: found >> 9 & 7,
+            };
+            let remembered = match found {
+                0 => continue,
+                _ if found == word(entry) => Remembered::These(BTreeSet::from([entry])),
+                _ => Remembered::Several(found),
+            };
+            sets.insert(((i / 1024) as u32, (i % 1024) as u32), remembered);
+        }
+        Machine {
+            memory: memory.to_vec(),
+            registers,
+            words: track.len(),
+            sets,
+        }
+    }
+
+    /// The track as words.
+    pub fn track(&self) -> Vec<u32> {
+        let mut words = vec![0; self.words];
+        for (&(context, page), remembered) in &self.sets {
+            words[context as usize * 1024 + page as usize] = match remembered {
+                Remembered::Several(found) => *found,
+                Remembered::These(set) if set.len() == 1 => set.first().map_or(0, |e| word(*e)),
+                Remembered::These(set) if set.is_empty() => 0,
+                Remembered::These(_) => 1,
+            };
+        }
+        words
+    }
+
+    fn lengths_fit(&self) -> bool {
+        let memory = self.memory.len();
+        let whole = memory.is_multiple_of(4096) && self.words.is_multiple_of(1024);
+        whole && (4096..=16_777_216).contains(&memory) && (1..=256).contains(&(self.words / 1024))
+    }
+
+    /// A start: the answer, and the machine afterwards.
+    pub fn start(memory: &[u8], track: &[u32], root: u32) -> (Answer, Machine) {
+        let mut machine = Machine::lent(memory, track, Registers::default());
+        if !machine.lengths_fit() {
+            return (Answer::Refused(13), machine);
+        }
+        if !root.is_multiple_of(0x80) {
+            return (Answer::Refused(10), machine);
+        }
+        machine.registers.root = root;
+        machine.sets.clear();
+        machine.note();
+        (Answer::Ok(0), machine)
+    }
+
+    pub fn outcome(&self, address: u32) -> Result<Entry, Fault> {
+        walk(&self.memory, self.registers.root, address)
+    }
+
+    fn note(&mut self) {
+        for page in 0..1024 {
+            if let Ok(entry) = self.outcome(page << 12) {
+                let remembered = self
+                    .sets
+                    .entry((self.registers.context, page))
+                    .or_insert_with(|| Remembered::These(BTreeSet::new()));
+                if let Remembered::These(set) = remembered {
+                    set.insert(entry);
+                }
+            }
+        }
+    }
+
+    pub fn is_stale(&self, address: u32) -> bool {
+        let present = self.outcome(address).ok();
+        match self.sets.get(&(self.registers.context, address >> 12)) {
+            None => false,
+            Some(Remembered::Several(_)) => true,
+            Some(Remembered::These(set)) => set.iter().any(|e| Some(*e) != present),
+        }
+    }
+
+    /// The numbers whose conditions hold before an access is looked at, in the order of the rules.
+    pub fn conditions(&self, operation: &Operation) -> Vec<u32> {
+        let Operation { kind, a, b, c } = *operation;
+        let contexts = (self.words / 1024) as u64;
+        let r = &self.registers;
+        let access = operation.is_access();
+        let flush_address = matches!(kind, Kind::Addr | Kind::AddrCtx);
+        let context = match kind {
+            Kind::Asid | Kind::Ctx => Some(a),
+            Kind::AddrCtx => Some(b),
+            _ => None,
+        };
+        let held = r.root.is_multiple_of(0x80) && u64::from(r.context) < contexts && r.mode < 2;
+        let large = matches!(b, 1 | 2) && u64::from(c) >= 1 << (8 * b);
+        [
+            (13, !self.lengths_fit()),
+            (14, !held),
+            (7, access && !matches!(b, 1 | 2 | 4)),
+            (8, (access || flush_address) && a >= 0x40_0000),
+            (9, kind == Kind::Write && large),
+            (10, kind == Kind::Root && !a.is_multiple_of(0x80)),
+            (11, context.is_some_and(|n| u64::from(n) >= contexts)),
+            (12, kind == Kind::Mode && a > 1),
+            (15, r.mode == 1 && !access && kind != Kind::Mode),
+        ]
+        .into_iter()
+        .filter_map(|(number, holds)| holds.then_some(number))
+        .collect()
+    }
+
+    pub fn step(&mut self, operation: &Operation) -> Answer {
+        if let Some(number) = self.conditions(operation).first() {
+            return Answer::Refused(*number);
+        }
+        if operation.is_access() && operation.is_aligned() && self.is_stale(operation.a) {
+            return Answer::Refused(16);
+        }
+        let outcome = match operation.kind {
+            Kind::Read | Kind::Write => self.outcome(operation.a),
+            _ => Err(2),
+        };
+        let answer = effect(&mut self.memory, &mut self.registers, operation, outcome);
+        self.sets
+            .retain(|&(context, page), _| !flushes(operation, context, page));
+        self.note();
+        answer
+    }
+}

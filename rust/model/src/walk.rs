@@ -1,0 +1,86 @@
+//! Reading a map: two levels of descriptors in byte memory.
+use std::ops::RangeInclusive;
+
+/// What a 4 KiB page maps to.
+#[derive(Clone, Copy, PartialEq, Eq, PartialOrd, Ord, Debug)]
+pub struct Entry {
+    /// The 20-bit number of the frame.
+    pub frame: u32,
+    /// AP[2:0].
+    pub ap: u32,
+}
+
+/// Why an operation carried out gave no value, by the number of the rules.
+pub type Fault = u32;
+
+/// The bits of a word, the highest first as the rules write them.
+fn bits(word: u32, range: RangeInclusive<u32>) -> u32 {
+    let (low, high) = (*range.start(), *range.end());
+    let wide = u64::from(word) >> low;
+    (wide & ((1 << (high - low + 1)) - 1)) as u32
+}
+
+/// The little-endian number of `size` bytes at a physical address, if they all lie in memory.
+pub fn number(memory: &[u8], at: u64, size: usize) -> Option<u32> {
+    let at = usize::try_from(at).ok()?;
+    let bytes = memory.get(at..at.checked_add(size)?)?;
+    Some(bytes.iter().rev().fold(0, |n, b| n << 8 | u32::from(*b)))
+}
+
+/// The walk of a virtual address below 0x400000.
+pub fn walk(memory: &[u8], root: u32, address: u32) -> Result<Entry, Fault> {
+    let at = u64::from(root) + 4 * u64::from(address / 0x10_0000);
+    let first = number(memory, at, 4).ok_or(5_u32)?;
+    match bits(first, 0..=1) {
+        1 => {
+            let table = u64::from(first & 0xFFFF_FC00);
+            let at = table + 4 * u64::from(address / 0x1000 % 256);
+            page(number(memory, at, 4).ok_or(6_u32)?, address)
+        }
+        2 if bits(first, 18..=18) == 0 => {
+            let physical = (first & 0xFFF0_0000) | (address & 0x000F_FFFF);
+            let ap = bits(first, 15..=15) << 2 | bits(first, 10..=11);
+            Ok(Entry {
+                frame: physical >> 12,
+                ap,
+            })
+        }
+        _ => Err(2),
+    }
+}
+
+fn page(second: u32, address: u32) -> Result<Entry, Fault> {
+    let physical = match bits(second, 0..=1) {
+        0 => return Err(3),
+        1 => (second & 0xFFFF_0000) | (address & 0xFFFF),
+        _ => (second & 0xFFFF_F000) | (address & 0xFFF),
+    };
+    let ap = bits(second, 9..=9) << 2 | bits(second, 4..=5);
+    Ok(Entry {
+        frame: physical >> 12,
+        ap,
+    })
+}
+
+/// The track word of one entry.
+pub fn word(entry: Entry) -> u32 {
+    entry.frame << 12 | entry.ap << 9 | 2
+}
+
+/// The walk as the bench rig's C function answers it.
+pub fn rig(memory: &[u8], root: u32, address: u32) -> u64 {
+    let refused = |n: u64| 0x2_0000_0000 + n;
+    if memory.is_empty() || !memory.len().is_multiple_of(4096) || memory.len() > 16_777_216 {
+        return refused(13);
+    }
+    if !root.is_multiple_of(0x80) {
+        return refused(10);
+    }
+    if address >= 0x40_0000 {
+        return refused(8);
+    }
+    match walk(memory, root, address) {
+        Ok(entry) => u64::from(word(entry)),
+        Err(fault) => 0x1_0000_0000 + u64::from(fault),
+    }
+}

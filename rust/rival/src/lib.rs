@@ -1,0 +1,260 @@
+//! A straightforward program that does what `replay` does, the same way: it re-reads every page
+//! after each operation. The benchmarks time the two side by side.
+use std::fs;
+use std::io::{self, Read, Write};
+
+const NAMES: [(&str, usize); 9] = [
+    ("read", 2),
+    ("write", 3),
+    ("root", 1),
+    ("asid", 1),
+    ("mode", 1),
+    ("all", 0),
+    ("addr", 1),
+    ("ctx", 1),
+    ("addrctx", 2),
+];
+
+/// What may be done by AP and mode: 0 nothing, 1 reading, 2 reading and writing.
+const RIGHTS: [[u32; 2]; 8] = [
+    [0, 0],
+    [2, 0],
+    [2, 1],
+    [2, 2],
+    [0, 0],
+    [1, 0],
+    [1, 1],
+    [1, 1],
+];
+
+enum Answer {
+    Ok(u32),
+    Fault(u32),
+    Refused(u32),
+}
+
+struct Machine {
+    memory: Vec<u8>,
+    track: Vec<u32>,
+    root: u32,
+    context: u32,
+    mode: u32,
+}
+
+fn load(memory: &[u8], at: usize) -> Option<u32> {
+    let bytes = memory.get(at..at + 4)?;
+    Some(u32::from_le_bytes([bytes[0], bytes[1], bytes[2], bytes[3]]))
+}
+
+/// The track word of a page, or its fault.
+fn walk(memory: &[u8], root: u32, page: usize) -> Result<u32, u32> {
+    let first = load(memory, root as usize + 4 * (page >> 8)).ok_or(5_u32)?;
+    if first & 3 == 1 {
+        let table = (first & !0x3FF) as usize;
+        let second = load(memory, table + 4 * (page & 0xFF)).ok_or(6_u32)?;
+        let ap = second >> 7 & 4 | second >> 4 & 3;
+        return match second & 3 {
+            0 => Err(3),
+            1 => Ok(second & 0xFFFF_0000 | (page as u32 & 0xF) << 12 | ap << 9 | 2),
+            _ => Ok(second & 0xFFFF_F000 | ap << 9 | 2),
+        };
+    }
+    if first & 3 == 2 && first & 1 << 18 == 0 {
+        let ap = first >> 13 & 4 | first >> 10 & 3;
+        return Ok(first & 0xFFF0_0000 | (page as u32 & 0xFF) << 12 | ap << 9 | 2);
+    }
+    Err(2)
+}
+
+impl Machine {
+    fn note(&mut self) {
+        let start = self.context as usize * 1024;
+        let row = &mut self.track[start..start + 1024];
+        for (page, word) in row.iter_mut().enumerate() {
+            if let Ok(entry) = walk(&self.memory, self.root, page) {
+                if *word == 0 {
+                    *word = entry;
+                } else if *word != entry && *word & 0x1FF == 2 {
+                    *word = 1;
+                }
+            }
+        }
+    }
+
+    fn refused(&self, kind: usize, [a, b, c]: [u32; 3]) -> Option<u32> {
+        let contexts = (self.track.len() / 1024) as u32;
+        let access = kind < 2;
+        if access && b != 1 && b != 2 && b != 4 {
+            return Some(7);
+        }
+        if (access || kind == 6 || kind == 8) && a >= 0x40_0000 {
+            return Some(8);
+        }
+        if kind == 1 && (b == 1 && c > 0xFF || b == 2 && c > 0xFFFF) {
+            return Some(9);
+        }
+        if kind == 2 && !a.is_multiple_of(0x80) {
+            return Some(10);
+        }
+        if (kind == 3 || kind == 7) && a >= contexts || kind == 8 && b >= contexts {
+            return Some(11);
+        }
+        if kind == 4 && a > 1 {
+            return Some(12);
+        }
+        if self.mode == 1 && !access && kind != 4 {
+            return Some(15);
+        }
+        None
+    }
+
+    fn access(&mut self, writes: bool, [a, size, value]: [u32; 3]) -> Answer {
+        if !a.is_multiple_of(size) {
+            return Answer::Fault(1);
+        }
+        let page = (a >> 12) as usize;
+        let outcome = walk(&self.memory, self.root, page);
+        let word = self.track[self.context as usize * 1024 + page];
+        if word != 0 && outcome != Ok(word) {
+            return Answer::Refused(16);
+        }
+        let entry = match outcome {
+            Ok(entry) => entry,
+            Err(fault) => return Answer::Fault(fault),
+        };
+        let rights = RIGHTS[(entry >> 9 & 7) as usize][self.mode as usize];
+        if rights < 1 + u32::from(writes) {
+            return Answer::Fault(4);
+        }
+        let at = (entry >> 12) as usize * 4096 + (a & 0xFFF) as usize;
+        let Some(bytes) = self.memory.get_mut(at..at + size as usize) else {
+            return Answer::Fault(7);
+        };
+        if writes {
+            bytes.copy_from_slice(&value.to_le_bytes()[..size as usize]);
+            return Answer::Ok(0);
+        }
+        let mut word = [0; 4];
+        word[..size as usize].copy_from_slice(bytes);
+        Answer::Ok(u32::from_le_bytes(word))
+    }
+
+    fn step(&mut self, kind: usize, fields: [u32; 3]) -> Answer {
+        if let Some(number) = self.refused(kind, fields) {
+            return Answer::Refused(number);
+        }
+        let [a, b, _] = fields;
+        let mut answer = Answer::Ok(0);
+        match kind {
+            0 | 1 => answer = self.access(kind == 1, fields),
+            2 => self.root = a,
+            3 => self.context = a,
+            4 => self.mode = a,
+            5 => self.track.fill(0),
+            6 => {
+                let page = (a >> 12) as usize;
+                self.track
+                    .iter_mut()
+                    .skip(page)
+                    .step_by(1024)
+                    .for_each(|w| *w = 0);
+            }
+            7 => self.track[a as usize * 1024..][..1024].fill(0),
+            _ => self.track[b as usize * 1024 + (a >> 12) as usize] = 0,
+        }
+        if !matches!(answer, Answer::Refused(_)) {
+            self.note();
+        }
+        answer
+    }
+}
+
+fn value(text: &[u8]) -> Option<u32> {
+    if text.is_empty() || text.len() > 8 || text.len() > 1 && text[0] == b'0' {
+        return None;
+    }
+    text.iter().try_fold(0, |n, b| {
+        let digit = match b {
+            b'0'..=b'9' => b - b'0',
+            b'a'..=b'f' => b - b'a' + 10,
+            _ => return None,
+        };
+        Some(n << 4 | u32::from(digit))
+    })
+}
+
+fn read_line(text: &[u8]) -> Result<(usize, [u32; 3]), u32> {
+    let mut fields = text.split(|b| *b == b',');
+    let mut next = || fields.next().ok_or(3_u32);
+    let (name, a, b, c) = (next()?, next()?, next()?, next()?);
+    if fields.next().is_some() {
+        return Err(3);
+    }
+    let (Some(a), Some(b), Some(c)) = (value(a), value(b), value(c)) else {
+        return Err(4);
+    };
+    let kind = NAMES.iter().position(|(n, _)| n.as_bytes() == name);
+    let kind = kind.ok_or(5_u32)?;
+    let fields = [a, b, c];
+    if fields[NAMES[kind].1..].iter().any(|field| *field != 0) {
+        return Err(6);
+    }
+    Ok((kind, fields))
+}
+
+fn report(mut image: Vec<u8>, list: &[u8]) -> Vec<u8> {
+    let mut out = Vec::from("line,op,answer,value\n");
+    if image.len() > 32_768 {
+        image.clear();
+    }
+    if image.is_empty() || !image.len().is_multiple_of(4096) {
+        out.extend(b"0,start,refused,d\n");
+        return out;
+    }
+    if list.len() > 65_536 {
+        out.extend(b"1,-,refused,1\n");
+        return out;
+    }
+    let Some(mut rest) = list.strip_prefix(b"op,a,b,c\n") else {
+        out.extend(b"1,-,refused,2\n");
+        return out;
+    };
+    let mut machine = Machine {
+        memory: image,
+        track: vec![0; 8 * 1024],
+        root: 0,
+        context: 0,
+        mode: 0,
+    };
+    machine.note();
+    let mut line = 2;
+    while !rest.is_empty() {
+        let end = rest.iter().position(|b| *b == b'\n');
+        let read = end.ok_or(3).and_then(|end| read_line(&rest[..end]));
+        let (kind, fields) = match read {
+            Ok(read) => read,
+            Err(number) => {
+                out.extend(format!("{line:x},-,refused,{number:x}\n").bytes());
+                break;
+            }
+        };
+        let (word, number) = match machine.step(kind, fields) {
+            Answer::Ok(n) => ("ok", n),
+            Answer::Fault(n) => ("fault", n),
+            Answer::Refused(n) => ("refused", n),
+        };
+        let name = NAMES[kind].0;
+        out.extend(format!("{line:x},{name},{word},{number:x}\n").bytes());
+        rest = &rest[end.map_or(rest.len(), |end| end + 1)..];
+        line += 1;
+    }
+    out
+}
+
+/// Reads a list from standard input and memory from image.bin, and prints the report.
+pub fn run() -> io::Result<()> {
+    let mut list = Vec::new();
+    io::stdin().take(65_537).read_to_end(&mut list)?;
+    let image = fs::read("image.bin").unwrap_or_default();
+    io::stdout().write_all(&report(image, &list))
+}
