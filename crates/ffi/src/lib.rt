@@ -48,6 +48,7 @@ fn word(s: &[u32], i: usize) -> u32
     0
 }
 
+// The operation in four words: kind, a, b and c.
 fn operation_from(o: &[u32]) -> Operation
     ensures { λ r. ⌜ r ≡ operationFrom (now (o .entry)) ⌝ }
 {
@@ -59,6 +60,7 @@ fn operation_from(o: &[u32]) -> Operation
     }
 }
 
+// The registers in three words: root, context and mode.
 fn registers_from(r: &[u32]) -> Registers
     ensures { λ x. ⌜ x ≡ registersFrom (now (r .entry)) ⌝ }
 {
@@ -69,6 +71,7 @@ fn registers_from(r: &[u32]) -> Registers
     }
 }
 
+// Puts registers into three words.
 fn registers_into(r: &mut [u32], x: Registers)
     requires { ⌜ length (now r) ≡ 3 ⌝ }
     ensures { λ _. ⌜ now (r .exit) ≡ registersInto (now (r .entry)) x ⌝ }
@@ -78,6 +81,7 @@ fn registers_into(r: &mut [u32], x: Registers)
     r[2] = x.mode;
 }
 
+// An answer as a number: the value, 0x100000000 plus a fault, or 0x200000000 plus a refusal.
 fn answer_number(x: Answer) -> u64
     ensures { λ r. ⌜ r ≡ answerNumber x ⌝ }
 {
@@ -88,6 +92,7 @@ fn answer_number(x: Answer) -> u64
     }
 }
 
+// Whether there are four words with a kind, and three.
 fn are_words(o: &[u32], r: &[u32]) -> bool
     ensures { λ x. ⌜ x ≡ areWords (now (o .entry)) (now (r .entry)) ⌝ }
 {

@@ -66,6 +66,7 @@ fn spare(n: u32, i: u32, x: u32) -> bool
     if i < n { true } else { x == 0 }
 }
 
+// An operation with its fields, if those that it does not use are 0.
 fn make(k: Kind, a: u32, b: u32, c: u32) -> Line
     ensures { λ r. ⌜ r ≡ opOf k a b c ⌝ }
 {
@@ -82,6 +83,7 @@ fn make(k: Kind, a: u32, b: u32, c: u32) -> Line
     Line::Op(Operation { kind: k, a, b, c })
 }
 
+// The same, if the name names one.
 fn with_name(n: Named, a: u32, b: u32, c: u32) -> Line
     ensures { λ r. ⌜ r ≡ withName n a b c ⌝ }
 {
@@ -91,6 +93,7 @@ fn with_name(n: Named, a: u32, b: u32, c: u32) -> Line
     }
 }
 
+// The same, if the values are spelled right.
 fn with_values(n: Named, a: Value, b: Value, c: Value) -> Line
     ensures { λ r. ⌜ r ≡ withValues n a b c ⌝ }
 {
@@ -106,6 +109,7 @@ fn with_values(n: Named, a: Value, b: Value, c: Value) -> Line
     with_name(n, x, y, z)
 }
 
+// The last field is all of `l`, which has no comma; the value of b, of a and the name stand before it.
 fn field_c(n: Named, a: Value, b: Value, l: &[u8]) -> Line
     ensures { λ r. ⌜ r ≡ fieldC n a b (now (l .entry)) ⌝ }
 {
@@ -115,6 +119,7 @@ fn field_c(n: Named, a: Value, b: Value, l: &[u8]) -> Line
     with_values(n, a, b, text::read_value(l))
 }
 
+// The field b, up to a comma, and the last one.
 fn field_b(n: Named, a: Value, l: &[u8]) -> Line
     ensures { λ r. ⌜ r ≡ fieldB n a (now (l .entry)) ⌝ }
 {
@@ -129,6 +134,7 @@ fn field_b(n: Named, a: Value, l: &[u8]) -> Line
     )
 }
 
+// The field a and the two after it.
 fn field_a(n: Named, l: &[u8]) -> Line
     ensures { λ r. ⌜ r ≡ fieldA n (now (l .entry)) ⌝ }
 {
@@ -142,6 +148,7 @@ fn field_a(n: Named, l: &[u8]) -> Line
     )
 }
 
+// The four fields of a line without its newline.
 fn fields(l: &[u8]) -> Line
     ensures { λ r. ⌜ r ≡ fieldsOf (now (l .entry)) ⌝ }
 {

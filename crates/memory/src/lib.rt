@@ -39,6 +39,7 @@ pub fn inside(m: &[u8], at: usize, size: Size) -> bool
     true
 }
 
+// Numbers of one, two and four bytes that lie in memory.
 fn one(m: &[u8], at: usize) -> u32
     requires { ⌜ at + 1 ≤ length (now m) ⌝ }
     ensures { λ r. ⌜ r ≡ numberAt One (now (m .entry)) at ⌝ }
@@ -75,6 +76,7 @@ pub fn load(m: &[u8], at: usize, size: Size) -> Loaded
     }
 }
 
+// Stores of one, two and four bytes that lie in memory.
 fn put_one(m: &mut [u8], at: usize, v: u32)
     requires { ⌜ at + 1 ≤ length (now m) ⌝ }
     ensures { λ _. ⌜ now (m .exit) ≡ storedAt One (now (m .entry)) at v ⌝ }

@@ -56,6 +56,7 @@ pub fn put_name(out: &mut [u8], at: usize, k: Kind) -> usize
     at
 }
 
+// The name of an operation, where there is room for it.
 fn copy_name(out: &mut [u8], at: usize, k: Kind) -> usize
     requires { ⌜ at + 7 ≤ length (now out) ⌝ }
     ensures { λ r. ⌜ (r ≡ at + length (Names·name k)) × (now (out .exit) ≡ over (now (out .entry)) at (Names·name k)) ⌝ }

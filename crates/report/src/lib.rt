@@ -95,6 +95,7 @@ fn body(m: &mut [u8], t: &mut [u32], list: &[u8], out: &mut [u8], at: usize) -> 
     }
 }
 
+// The whole report: its header, then the rest.
 fn whole(m: &mut [u8], t: &mut [u32], list: &[u8], out: &mut [u8]) -> usize
     requires { ⌜ 262272 ≤ length (now out) ⌝ }
     ensures { λ p. ⌜ Ran (reportOf (now (m .entry)) (now (t .entry)) (now (list .entry))) (now (out .entry)) 0 p (now (m .exit)) (now (t .exit)) (now (out .exit)) ⌝ }

@@ -16,6 +16,7 @@ pub fn put_header(out: &mut [u8], at: usize) -> usize
     text::put(out, at, b"line,op,answer,value\n")
 }
 
+// The word for an answer.
 fn put_word(out: &mut [u8], at: usize, a: Answer) -> usize
     requires { ⌜ at + 7 ≤ length (now out) ⌝ }
     ensures { λ r. ⌜ (r ≡ at + length (Text·word (shown a))) × (now (out .exit) ≡ over (now (out .entry)) at (Text·word (shown a))) ⌝ }
@@ -38,6 +39,7 @@ pub fn value(a: Answer) -> u32
     }
 }
 
+// The line of an operation, where there is room for it.
 fn copy_row(out: &mut [u8], at: usize, line: u32, k: Kind, a: Answer) -> usize
     requires { ⌜ at + 34 ≤ length (now out) ⌝ }
     ensures { λ r. ⌜ (r ≡ at + length (rowText line (Names·name k) (shown a))) × (now (out .exit) ≡ over (now (out .entry)) at (rowText line (Names·name k) (shown a))) ⌝ }
@@ -62,6 +64,7 @@ pub fn put_row(out: &mut [u8], at: usize, line: u32, k: Kind, a: Answer) -> usiz
     at
 }
 
+// The line of a list refusal, where there is room for it.
 fn copy_refusal(out: &mut [u8], at: usize, line: u32, n: u32) -> usize
     requires { ⌜ at + 34 ≤ length (now out) ⌝ }
     ensures { λ r. ⌜ (r ≡ at + length (rowText line noName (refused n))) × (now (out .exit) ≡ over (now (out .entry)) at (rowText line noName (refused n))) ⌝ }
@@ -82,6 +85,7 @@ pub fn put_refusal(out: &mut [u8], at: usize, line: u32, n: u32) -> usize
     at
 }
 
+// The line of a refused start, where there is room for it.
 fn copy_start(out: &mut [u8], at: usize, n: u32) -> usize
     requires { ⌜ at + 34 ≤ length (now out) ⌝ }
     ensures { λ r. ⌜ (r ≡ at + length (rowText 0 startName (refused n))) × (now (out .exit) ≡ over (now (out .entry)) at (rowText 0 startName (refused n))) ⌝ }

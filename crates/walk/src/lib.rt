@@ -72,6 +72,7 @@ pub fn entry_word(e: Entry) -> u32
     e.frame % 1048576 * 4096 + e.ap % 8 * 512 + 2
 }
 
+// What a walk finds, as a number: an entry's track word, or 0x100000000 plus a fault.
 fn outcome_number(o: Outcome) -> u64
     ensures { λ r. ⌜ r ≡ outcomeNumber o ⌝ }
 {

@@ -9,19 +9,15 @@ use Rattle.access.proofs.decide.Reads as decide-reads
 use Rattle.track.proofs.word_at.Reads as word-at-reads
 use Rattle.walk.proofs.walk.Reads as walk-reads
 
--- src/lib.rt:70:9
 walk-requires : tie.Need-walk-requires
 walk-requires c κs = search needs
 
--- src/lib.rt:71:9
 word-at-requires : tie.Need-word-at-requires
 word-at-requires c κs = search needs
 
--- src/lib.rt:72:5
 decide-requires : tie.Need-decide-requires
 decide-requires c κs = search needs
 
--- src/lib.rt:66:1
 returns : tie.Need-returns
 unfolding accessAt
 returns c = let w = c .before in let o = w .before in

@@ -11,35 +11,28 @@ use Rattle.access.proofs.grant.Reads as grant-reads
 use Rattle.memory.proofs.bytes.Reads as bytes-reads
 use Rattle.track.proofs.is_stale.Reads as is-stale-reads
 
--- src/lib.rt:54:9
 bytes-requires : tie.Need-bytes-requires
 bytes-requires c κs = search needs
 
--- src/lib.rt:55:16
 rem-rest : tie.Need-rem-rest
 rem-rest c = rw (c .bytes .ensures) (bytes-pos (c .before .before .args .size))
 
--- src/lib.rt:57:12
 is-stale-requires : tie.Need-is-stale-requires
 is-stale-requires c κs = search needs
 
--- src/lib.rt:58:13
 returns : tie.Need-returns
 unfolding decided
 returns c = let e = c .before .before in
     simp (← e .before .bytes .ensures, eq-eqb _ _ (e .if1 .taken), sym (c .before .is-stale .ensures) ∙ c .if2 .taken)
 
--- src/lib.rt:60:9
 grant-requires : tie.Need-grant-requires
 grant-requires c κs = search needs
 
--- src/lib.rt:60:9
 returns-2 : tie.Need-returns-2
 unfolding decided
 returns-2 c = let f = c .before in let e = f .before .before in
     simp (← e .before .bytes .ensures, eq-eqb _ _ (e .if1 .taken), sym (f .before .is-stale .ensures) ∙ f .if2 .left) (c .grant .ensures)
 
--- src/lib.rt:51:1
 returns-3 : tie.Need-returns-3
 unfolding decided
 returns-3 c = simp (← c .before .bytes .ensures, ne-eqb _ _ (c .if1 .left))

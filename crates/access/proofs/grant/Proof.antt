@@ -10,51 +10,40 @@ use Rattle.access.proofs.grant.Lts as lts
 use Rattle.access.proofs.permitted.Reads as permitted-reads
 use Rattle.memory.proofs.inside.Reads as inside-reads
 
--- src/lib.rt:89:25
 enum-known-o : tie.Need-enum-known-o
 enum-known-o c = search needs
 
--- src/lib.rt:90:25
 enum-known-o-2 : tie.Need-enum-known-o-2
 enum-known-o-2 c = search needs
 
--- src/lib.rt:91:22
 cast-at : tie.Need-cast-at
 cast-at c = search needs
 
--- src/lib.rt:91:22
 mul-at : tie.Need-mul-at
 mul-at c = search needs
 
--- src/lib.rt:91:22
 add-at : tie.Need-add-at
 add-at c = search needs
 
--- src/lib.rt:92:17
 permitted-requires : tie.Need-permitted-requires
 permitted-requires c κs = search needs
 
--- src/lib.rt:93:17
 inside-requires : tie.Need-inside-requires
 inside-requires c κs = search needs
 
--- src/lib.rt:95:17
 returns : tie.Need-returns
 returns c = let i = c .before in let p = i .before in let k = p .before .before .before in let a = k .before .before .before .args in
     grant-denied (a .o) (a .mode) (a .writes) (a .size) (a .a) (now (a .m)) _ (k .o2 .given .1) (sym (p .permitted .ensures) ∙ not-true _ (c .if1 .taken))
 
--- src/lib.rt:98:17
 returns-2 : tie.Need-returns-2
 returns-2 c = let i = c .before .before in let p = i .before in let k = p .before .before .before in let a = k .before .before .before .args in
     grant-outside (a .o) (a .mode) (a .writes) (a .size) (a .a) (now (a .m)) _ (k .o2 .given .1) (sym (p .permitted .ensures) ∙ not-false _ (c .before .if1 .left))
     (sym (i .inside .ensures) ∙ not-true _ (c .if2 .taken))
 
--- src/lib.rt:85:1
 returns-3 : tie.Need-returns-3
 returns-3 c = let k = c .before in let a = k .before .before .before .args in
     grant-failed (a .o) (a .mode) (a .writes) (a .size) (a .a) (now (a .m)) _ (k .o .given .1)
 
--- src/lib.rt:85:1
 returns-4 : tie.Need-returns-4
 returns-4 c = let i = c .before .before in let p = i .before in let k = p .before .before .before in let a = k .before .before .before .args in
     grant-physical (a .o) (a .mode) (a .writes) (a .size) (a .a) (now (a .m)) _ (k .o2 .given .1) (sym (p .permitted .ensures) ∙ not-false _ (c .before .if1 .left))

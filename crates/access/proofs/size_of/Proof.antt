@@ -5,15 +5,12 @@ use Rattle.access.proofs.size_of.Tie as tie
 use Rattle.access.proofs.size_of.Reads as reads
 use Rattle.access.proofs.size_of.Lts as lts
 
--- src/lib.rt:23:9
 returns : tie.Need-returns
 returns c = simp (eq-eqb _ _ (c .if1 .taken))
 
--- src/lib.rt:26:9
 returns-2 : tie.Need-returns-2
 returns-2 c = simp (ne-eqb _ _ (c .before .if1 .left), eq-eqb _ _ (c .if2 .taken))
 
--- src/lib.rt:19:1
 returns-3 : tie.Need-returns-3
 returns-3 c = simp (ne-eqb _ _ (c .before .if1 .left), ne-eqb _ _ (c .if2 .left))
 

@@ -9,30 +9,24 @@ use Rattle.descriptor.proofs.first_of.Reads as reads
 use Rattle.descriptor.proofs.first_of.Lts as lts
 use Rattle.descriptor.proofs.section_entry.Reads as section-entry-reads
 
--- src/lib.rt:87:29
 mul-t8 : tie.Need-mul-t8
 mul-t8 c = search needs
 
--- src/lib.rt:87:9
 returns : tie.Need-returns
 unfolding firstOf
 returns c = simp (eq-eqb _ _ (c .if1 .taken))
 
--- src/lib.rt:92:35
 section-entry-requires : tie.Need-section-entry-requires
 section-entry-requires c κs = search needs
 
--- src/lib.rt:92:13
 returns-2 : tie.Need-returns-2
 unfolding firstOf
 returns-2 c = simp (ne-eqb _ _ (c .before .before .before .if1 .left), eq-eqb _ _ (c .before .before .if2 .taken), eq-eqb _ _ (c .before .if3 .taken)) (ap Section (c .section-entry .ensures))
 
--- src/lib.rt:94:9
 returns-3 : tie.Need-returns-3
 unfolding firstOf
 returns-3 c = simp (ne-eqb _ _ (c .before .before .if1 .left), eq-eqb _ _ (c .before .if2 .taken), ne-eqb _ _ (c .if3 .left))
 
--- src/lib.rt:82:1
 returns-4 : tie.Need-returns-4
 unfolding firstOf
 returns-4 c = simp (ne-eqb _ _ (c .before .if1 .left), ne-eqb _ _ (c .if2 .left))

@@ -5,27 +5,21 @@ use Rattle.descriptor.proofs.large_entry.Tie as tie
 use Rattle.descriptor.proofs.large_entry.Reads as reads
 use Rattle.descriptor.proofs.large_entry.Lts as lts
 
--- src/lib.rt:24:16
 mul-t5 : tie.Need-mul-t5
 mul-t5 c = search needs
 
--- src/lib.rt:24:41
 cast-t7 : tie.Need-cast-t7
 cast-t7 c = search needs
 
--- src/lib.rt:24:16
 add-t8 : tie.Need-add-t8
 add-t8 c = search needs
 
--- src/lib.rt:25:13
 mul-t11 : tie.Need-mul-t11
 mul-t11 c = search needs
 
--- src/lib.rt:25:13
 add-t14 : tie.Need-add-t14
 add-t14 c = search needs
 
--- src/lib.rt:20:1
 returns : tie.Need-returns
 returns c = refl
 

@@ -10,25 +10,20 @@ use Rattle.descriptor.proofs.second_of.Lts as lts
 use Rattle.descriptor.proofs.large_entry.Reads as large-entry-reads
 use Rattle.descriptor.proofs.small_entry.Reads as small-entry-reads
 
--- src/lib.rt:104:9
 returns : tie.Need-returns
 unfolding secondOf
 returns c = simp (eq-eqb _ _ (c .if1 .taken))
 
--- src/lib.rt:107:32
 large-entry-requires : tie.Need-large-entry-requires
 large-entry-requires c κs = search needs
 
--- src/lib.rt:107:9
 returns-2 : tie.Need-returns-2
 unfolding secondOf
 returns-2 c = simp (ne-eqb _ _ (c .before .before .if1 .left), eq-eqb _ _ (c .before .if2 .taken)) (ap Mapped (c .large-entry .ensures))
 
--- src/lib.rt:109:21
 small-entry-requires : tie.Need-small-entry-requires
 small-entry-requires c κs = search needs
 
--- src/lib.rt:99:1
 returns-3 : tie.Need-returns-3
 unfolding secondOf
 returns-3 c = simp (ne-eqb _ _ (c .before .before .if1 .left), ne-eqb _ _ (c .before .if2 .left)) (ap Mapped (c .small-entry .ensures))

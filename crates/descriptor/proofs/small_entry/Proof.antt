@@ -5,15 +5,12 @@ use Rattle.descriptor.proofs.small_entry.Tie as tie
 use Rattle.descriptor.proofs.small_entry.Reads as reads
 use Rattle.descriptor.proofs.small_entry.Lts as lts
 
--- src/lib.rt:35:13
 mul-t6 : tie.Need-mul-t6
 mul-t6 c = search needs
 
--- src/lib.rt:35:13
 add-t9 : tie.Need-add-t9
 add-t9 c = search needs
 
--- src/lib.rt:30:1
 returns : tie.Need-returns
 returns c = refl
 

@@ -9,55 +9,42 @@ use Rattle.ffi.proofs.answer_number.Lts as lts
 use Rattle.checks.proofs.refusal_number.Reads as refusal-number-reads
 use Rattle.walk.proofs.fault_number.Reads as fault-number-reads
 
--- src/lib.rt:76:22
 enum-known-x : tie.Need-enum-known-x
 enum-known-x c = search needs
 
--- src/lib.rt:76:28
 cast-result : tie.Need-cast-result
 cast-result c = search needs
 
--- src/lib.rt:77:25
 enum-known-x-2 : tie.Need-enum-known-x-2
 enum-known-x-2 c = search needs
 
--- src/lib.rt:77:44
 fault-number-requires : tie.Need-fault-number-requires
 fault-number-requires c κs = search needs
 
--- src/lib.rt:77:44
 cast-result-2 : tie.Need-cast-result-2
 cast-result-2 c = search needs
 
--- src/lib.rt:77:31
 add-result : tie.Need-add-result
 add-result c = search needs
 
--- src/lib.rt:78:25
 enum-known-x-3 : tie.Need-enum-known-x-3
 enum-known-x-3 c = search needs
 
--- src/lib.rt:78:44
 refusal-number-requires : tie.Need-refusal-number-requires
 refusal-number-requires c κs = search needs
 
--- src/lib.rt:78:44
 cast-result-3 : tie.Need-cast-result-3
 cast-result-3 c = search needs
 
--- src/lib.rt:78:31
 add-result-2 : tie.Need-add-result-2
 add-result-2 c = search needs
 
--- src/lib.rt:72:1
 returns : tie.Need-returns
 returns c = search needs
 
--- src/lib.rt:72:1
 returns-2 : tie.Need-returns-2
 returns-2 c = ap (λ (n : ℕ). 4294967296 + n) (c .fault-number .ensures .0) ∙ sym (ap answerNumber (c .before .before .x2 .given .1))
 
--- src/lib.rt:72:1
 returns-3 : tie.Need-returns-3
 returns-3 c = ap (λ (n : ℕ). 8589934592 + n) (c .refusal-number .ensures .0) ∙ sym (ap answerNumber (c .before .before .x3 .given .1))
 

@@ -10,21 +10,17 @@ use Rattle.ffi.proofs.are_words.Reads as reads
 use Rattle.ffi.proofs.are_words.Lts as lts
 use Rattle.ffi.proofs.word.Reads as word-reads
 
--- src/lib.rt:87:20
 word-requires : tie.Need-word-requires
 word-requires c κs = search needs
 
--- src/lib.rt:87:13
 returns : tie.Need-returns
 unfolding areWords
 returns c = simp (eq-eqb _ _ (c .before .before .if1 .taken), eq-eqb _ _ (c .before .if2 .taken)) (ap (λ (n : ℕ). ltb n 9) (c .word .ensures))
 
--- src/lib.rt:89:9
 returns-2 : tie.Need-returns-2
 unfolding areWords
 returns-2 c = simp (eq-eqb _ _ (c .before .if1 .taken), ne-eqb _ _ (c .if2 .left))
 
--- src/lib.rt:82:1
 returns-3 : tie.Need-returns-3
 unfolding areWords
 returns-3 c = simp (ne-eqb _ _ (c .if1 .left))

@@ -10,32 +10,25 @@ use Rattle.ffi.proofs.answer_number.Reads as answer-number-reads
 use Rattle.ffi.proofs.registers_into.Reads as registers-into-reads
 use Rattle.machine.proofs.start.Reads as start-reads
 
--- src/lib.rt:118:13
 start-requires : tie.Need-start-requires
 start-requires c κs = search needs
 
--- src/lib.rt:120:9
 registers-into-requires : tie.Need-registers-into-requires
 registers-into-requires c κs = search needs
 
--- src/lib.rt:122:9
 answer-number-requires : tie.Need-answer-number-requires
 answer-number-requires c κs = search needs
 
--- src/lib.rt:122:9
 same-length : tie.Need-same-length
 same-length c = search needs
 
--- src/lib.rt:122:9
 same-length-2 : tie.Need-same-length-2
 same-length-2 c = search needs
 
--- src/lib.rt:122:9
 returns : tie.Need-returns
 returns c = let n = c .before .before .before in let s = n .before .before .before .before .before in let i = s .before .before in let a = i .before .before .before .before .args in
     start-left (now (a .m)) (now (a .t)) (a .root) (now (a .r)) _ _ _ _ (i .if1 .taken) (s .start .ensures) (n .registers-into .ensures) (c .answer-number .ensures)
 
--- src/lib.rt:113:1
 returns-2 : tie.Need-returns-2
 returns-2 c = let a = c .before .before .before .before .args in
     start-not (now (a .m)) (now (a .t)) (a .root) (now (a .r)) (c .if1 .left)

@@ -13,53 +13,41 @@ use Rattle.ffi.proofs.registers_from.Reads as registers-from-reads
 use Rattle.ffi.proofs.registers_into.Reads as registers-into-reads
 use Rattle.machine.proofs.step.Reads as step-reads
 
--- src/lib.rt:100:8
 are-words-requires : tie.Need-are-words-requires
 are-words-requires c κs = search needs
 
--- src/lib.rt:101:13
 operation-from-requires : tie.Need-operation-from-requires
 operation-from-requires c κs = search needs
 
--- src/lib.rt:102:13
 registers-from-requires : tie.Need-registers-from-requires
 registers-from-requires c κs = search needs
 
--- src/lib.rt:103:13
 step-requires : tie.Need-step-requires
 step-requires c κs = search needs
 
--- src/lib.rt:105:9
 registers-into-requires : tie.Need-registers-into-requires
 registers-into-requires c κs = let s = c .before .before .before .before .before .before in let i = s .before .before .before .before .before .before in let w = i .before in let a = w .before .before .before .before .before .before .args in
     three (now (a .o)) (now (a .r)) (now (a .m)) (now (a .t)) (sym (w .are-words .ensures) ∙ i .if1 .taken)
 
--- src/lib.rt:107:9
 answer-number-requires : tie.Need-answer-number-requires
 answer-number-requires c κs = search needs
 
--- src/lib.rt:107:9
 same-length : tie.Need-same-length
 same-length c = search needs
 
--- src/lib.rt:107:9
 same-length-2 : tie.Need-same-length-2
 same-length-2 c = search needs
 
--- src/lib.rt:107:9
 same-length-3 : tie.Need-same-length-3
 same-length-3 c = search needs
 
--- src/lib.rt:107:9
 returns : tie.Need-returns
 returns c = let n = c .before .before .before in let s = n .before .before .before .before .before .before .before in let g = s .before .before .before in let p = g .before .before in let i = p .before in let w = i .before in let a = w .before .before .before .before .before .before .args in
     step-left (now (a .o)) (now (a .r)) (now (a .m)) (now (a .t)) _ _ _ _ _ _ _ (sym (w .are-words .ensures) ∙ i .if1 .taken) (p .operation-from .ensures) (g .registers-from .ensures) (s .step .ensures) (n .registers-into .ensures) (c .answer-number .ensures)
 
--- src/lib.rt:96:1
 same-length-4 : tie.Need-same-length-4
 same-length-4 c = search needs
 
--- src/lib.rt:96:1
 returns-2 : tie.Need-returns-2
 returns-2 c = let w = c .before in let a = w .before .before .before .before .before .before .args in
     step-not (now (a .o)) (now (a .r)) (now (a .m)) (now (a .t)) (sym (w .are-words .ensures) ∙ c .if1 .left)

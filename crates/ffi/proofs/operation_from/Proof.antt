@@ -8,27 +8,21 @@ use Rattle.ffi.proofs.operation_from.Lts as lts
 use Rattle.ffi.proofs.kind_from.Reads as kind-from-reads
 use Rattle.ffi.proofs.word.Reads as word-reads
 
--- src/lib.rt:54:33
 word-requires : tie.Need-word-requires
 word-requires c κs = search needs
 
--- src/lib.rt:54:23
 kind-from-requires : tie.Need-kind-from-requires
 kind-from-requires c κs = search needs
 
--- src/lib.rt:54:49
 word-requires-2 : tie.Need-word-requires-2
 word-requires-2 c κs = search needs
 
--- src/lib.rt:54:64
 word-requires-3 : tie.Need-word-requires-3
 word-requires-3 c κs = search needs
 
--- src/lib.rt:54:79
 word-requires-4 : tie.Need-word-requires-4
 word-requires-4 c κs = search needs
 
--- src/lib.rt:51:1
 returns : tie.Need-returns
 unfolding operationFrom
 returns c = let k = c .before .before .before in λ i. record {

@@ -6,19 +6,15 @@ use Rattle.ffi.proofs.registers_from.Reads as reads
 use Rattle.ffi.proofs.registers_from.Lts as lts
 use Rattle.ffi.proofs.word.Reads as word-reads
 
--- src/lib.rt:60:23
 word-requires : tie.Need-word-requires
 word-requires c κs = search needs
 
--- src/lib.rt:60:44
 word-requires-2 : tie.Need-word-requires-2
 word-requires-2 c κs = search needs
 
--- src/lib.rt:60:62
 word-requires-3 : tie.Need-word-requires-3
 word-requires-3 c κs = search needs
 
--- src/lib.rt:57:1
 returns : tie.Need-returns
 unfolding registersFrom
 returns c = λ i. record { root = c .before .before .word .ensures i; context = c .before .word2 .ensures i; mode = c .word3 .ensures i }

@@ -6,23 +6,18 @@ use Rattle.ffi.proofs.registers_into.Tie as tie
 use Rattle.ffi.proofs.registers_into.Reads as reads
 use Rattle.ffi.proofs.registers_into.Lts as lts
 
--- src/lib.rt:67:5
 slice-write-r : tie.Need-slice-write-r
 slice-write-r c = search needs
 
--- src/lib.rt:68:5
 slice-write-r-2 : tie.Need-slice-write-r-2
 slice-write-r-2 c = search needs
 
--- src/lib.rt:69:5
 slice-write-r-3 : tie.Need-slice-write-r-3
 slice-write-r-3 c = search needs
 
--- src/lib.rt:63:1
 same-length : tie.Need-same-length
 same-length c = search needs
 
--- src/lib.rt:63:1
 returns : tie.Need-returns
 unfolding registersInto
 returns c = refl

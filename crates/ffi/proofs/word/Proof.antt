@@ -8,19 +8,15 @@ use Rattle.ffi.proofs.word.Tie as tie
 use Rattle.ffi.proofs.word.Reads as reads
 use Rattle.ffi.proofs.word.Lts as lts
 
--- src/lib.rt:46:16
 mul-result : tie.Need-mul-result
 mul-result c = search needs
 
--- src/lib.rt:46:16
 shared-slice-read-result : tie.Need-shared-slice-read-result
 shared-slice-read-result c = search needs
 
--- src/lib.rt:46:9
 returns : tie.Need-returns
 returns c = search needs
 
--- src/lib.rt:42:1
 returns-2 : tie.Need-returns-2
 returns-2 c = sym (List·getD-eq-default (now (c .before .args .s)) 0 (c .if1 .left))
 

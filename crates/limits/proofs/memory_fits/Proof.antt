@@ -5,17 +5,14 @@ use Rattle.limits.proofs.memory_fits.Tie as tie
 use Rattle.limits.proofs.memory_fits.Reads as reads
 use Rattle.limits.proofs.memory_fits.Lts as lts
 
--- src/lib.rt:154:13
 returns : tie.Need-returns
 unfolding memoryFits
 returns c = simp (eq-eqb _ _ (c .before .if1 .taken), le-leb _ _ (c .if2 .taken))
 
--- src/lib.rt:156:9
 returns-2 : tie.Need-returns-2
 unfolding memoryFits
 returns-2 c = simp (eq-eqb _ _ (c .before .if1 .taken), lt-leb _ _ (c .if2 .left))
 
--- src/lib.rt:148:1
 returns-3 : tie.Need-returns-3
 unfolding memoryFits
 returns-3 c = simp (ne-eqb _ _ (c .if1 .left))

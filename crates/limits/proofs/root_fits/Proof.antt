@@ -5,7 +5,6 @@ use Rattle.limits.proofs.root_fits.Tie as tie
 use Rattle.limits.proofs.root_fits.Reads as reads
 use Rattle.limits.proofs.root_fits.Lts as lts
 
--- src/lib.rt:149:1
 returns : tie.Need-returns
 unfolding rootFits
 returns c = refl

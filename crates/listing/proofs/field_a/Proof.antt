@@ -11,32 +11,25 @@ use Rattle.text.proofs.past.Reads as past-reads
 use Rattle.text.proofs.read_value.Reads as read-value-reads
 use Rattle.text.proofs.until.Reads as until-reads
 
--- src/lib.rt:155:9
 has-requires : tie.Need-has-requires
 has-requires c κs = search needs
 
--- src/lib.rt:156:9
 returns : tie.Need-returns
 unfolding fieldA
 returns c = rw (was-false (c .before .has .ensures) (c .if1 .taken))
 
--- src/lib.rt:158:33
 until-requires : tie.Need-until-requires
 until-requires c κs = search needs
 
--- src/lib.rt:158:16
 read-value-requires : tie.Need-read-value-requires
 read-value-requires c κs = search needs
 
--- src/lib.rt:158:56
 past-requires : tie.Need-past-requires
 past-requires c κs = search needs
 
--- src/lib.rt:158:5
 field-b-requires : tie.Need-field-b-requires
 field-b-requires c κs = search needs
 
--- src/lib.rt:152:1
 returns-2 : tie.Need-returns-2
 unfolding fieldA
 returns-2 c = rw (was-true (c .before .before .before .before .before .has .ensures) (c .before .before .before .before .if1 .left)) cc

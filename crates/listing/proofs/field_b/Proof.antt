@@ -11,32 +11,25 @@ use Rattle.text.proofs.past.Reads as past-reads
 use Rattle.text.proofs.read_value.Reads as read-value-reads
 use Rattle.text.proofs.until.Reads as until-reads
 
--- src/lib.rt:146:9
 has-requires : tie.Need-has-requires
 has-requires c κs = search needs
 
--- src/lib.rt:147:9
 returns : tie.Need-returns
 unfolding fieldB
 returns c = rw (was-false (c .before .has .ensures) (c .if1 .taken))
 
--- src/lib.rt:149:36
 until-requires : tie.Need-until-requires
 until-requires c κs = search needs
 
--- src/lib.rt:149:19
 read-value-requires : tie.Need-read-value-requires
 read-value-requires c κs = search needs
 
--- src/lib.rt:149:59
 past-requires : tie.Need-past-requires
 past-requires c κs = search needs
 
--- src/lib.rt:149:5
 field-c-requires : tie.Need-field-c-requires
 field-c-requires c κs = search needs
 
--- src/lib.rt:143:1
 returns-2 : tie.Need-returns-2
 unfolding fieldB
 returns-2 c = rw (was-true (c .before .before .before .before .before .has .ensures) (c .before .before .before .before .if1 .left)) cc

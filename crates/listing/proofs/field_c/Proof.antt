@@ -13,26 +13,21 @@ use Rattle.listing.proofs.with_values.Reads as with-values-reads
 use Rattle.text.proofs.has.Reads as has-reads
 use Rattle.text.proofs.read_value.Reads as read-value-reads
 
--- src/lib.rt:137:8
 has-requires : tie.Need-has-requires
 has-requires c κs = search needs
 
--- src/lib.rt:138:9
 returns : tie.Need-returns
 unfolding fieldC
 returns c =
     let h : has comma (now (c .before .before .before .args .l)) ≡ true = sym (c .before .has .ensures) ∙ c .if1 .taken in
     rw h
 
--- src/lib.rt:140:26
 read-value-requires : tie.Need-read-value-requires
 read-value-requires c κs = search needs
 
--- src/lib.rt:140:5
 with-values-requires : tie.Need-with-values-requires
 with-values-requires c κs = search needs
 
--- src/lib.rt:134:1
 returns-2 : tie.Need-returns-2
 unfolding fieldC
 returns-2 c =

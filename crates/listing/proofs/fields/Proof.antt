@@ -11,32 +11,25 @@ use Rattle.text.proofs.has.Reads as has-reads
 use Rattle.text.proofs.past.Reads as past-reads
 use Rattle.text.proofs.until.Reads as until-reads
 
--- src/lib.rt:164:9
 has-requires : tie.Need-has-requires
 has-requires c κs = search needs
 
--- src/lib.rt:165:9
 returns : tie.Need-returns
 unfolding fieldsOf
 returns c = rw (was-false (c .before .has .ensures) (c .if1 .taken))
 
--- src/lib.rt:167:21
 until-requires : tie.Need-until-requires
 until-requires c κs = search needs
 
--- src/lib.rt:167:13
 name-of-requires : tie.Need-name-of-requires
 name-of-requires c κs = search needs
 
--- src/lib.rt:167:44
 past-requires : tie.Need-past-requires
 past-requires c κs = search needs
 
--- src/lib.rt:167:5
 field-a-requires : tie.Need-field-a-requires
 field-a-requires c κs = search needs
 
--- src/lib.rt:161:1
 returns-2 : tie.Need-returns-2
 unfolding fieldsOf
 returns-2 c = rw (was-true (c .before .before .before .before .before .has .ensures) (c .before .before .before .before .if1 .left)) cc

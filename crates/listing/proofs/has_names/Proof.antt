@@ -9,29 +9,23 @@ use Rattle.text.proofs.has.Reads as has-reads
 use Rattle.text.proofs.same.Reads as same-reads
 use Rattle.text.proofs.until.Reads as until-reads
 
--- src/lib.rt:182:8
 has-requires : tie.Need-has-requires
 has-requires c κs = search needs
 
--- src/lib.rt:183:27
 until-requires : tie.Need-until-requires
 until-requires c κs = search needs
 
--- src/lib.rt:183:53
 slice-aggregate-same : tie.Need-slice-aggregate-same
 slice-aggregate-same c = search needs
 
--- src/lib.rt:183:9
 same-requires : tie.Need-same-requires
 same-requires c κs = search needs
 
--- src/lib.rt:183:9
 returns : tie.Need-returns
 unfolding hasNames
 returns c = let u = c .before .before in let i = u .before in let h = i .before in
     rw (sym (h .has .ensures) ∙ i .if1 .taken, sym (u .until .ensures)) (c .same .ensures)
 
--- src/lib.rt:179:1
 returns-2 : tie.Need-returns-2
 unfolding hasNames
 returns-2 c = rw (sym (c .before .has .ensures) ∙ c .if1 .left)

@@ -10,11 +10,9 @@ use Rattle.listing.proofs.make.Lts as lts
 use Rattle.listing.proofs.spare.Reads as spare-reads
 use Rattle.listing.proofs.used.Reads as used-reads
 
--- src/lib.rt:97:9
 used-requires : tie.Need-used-requires
 used-requires c κs = search needs
 
--- src/lib.rt:98:9
 spare-requires : tie.Need-spare-requires
 spare-requires c κs = search needs
 
@@ -28,18 +26,15 @@ second-left c = rw (sym (c .before .before .before .before .used .ensures)) (was
 third-left : (c : tie.Else3) → let a = c .before .before .before .before .before .before .before .args in spare (used (a .k)) 2 (a .c) ≡ true
 third-left c = rw (sym (c .before .before .before .before .before .before .used .ensures)) (was-true (c .before .spare3 .ensures) (c .if3 .left))
 
--- src/lib.rt:99:9
 returns : tie.Need-returns
 returns c =
     let a = c .before .before .before .args in
     let h : spare (used (a .k)) 0 (a .a) ≡ false = rw (sym (c .before .before .used .ensures)) (was-false (c .before .spare .ensures) (c .if1 .taken)) in
     op-first (a .k) (a .a) (a .b) (a .c) h
 
--- src/lib.rt:101:9
 spare-requires-2 : tie.Need-spare-requires-2
 spare-requires-2 c κs = search needs
 
--- src/lib.rt:102:9
 returns-2 : tie.Need-returns-2
 returns-2 c =
     let f = c .before .before in
@@ -47,11 +42,9 @@ returns-2 c =
     let h : spare (used (a .k)) 1 (a .b) ≡ false = rw (sym (f .before .before .used .ensures)) (was-false (c .before .spare2 .ensures) (c .if2 .taken)) in
     op-second (a .k) (a .a) (a .b) (a .c) (first-left f) h
 
--- src/lib.rt:104:9
 spare-requires-3 : tie.Need-spare-requires-3
 spare-requires-3 c κs = search needs
 
--- src/lib.rt:105:9
 returns-3 : tie.Need-returns-3
 returns-3 c =
     let s = c .before .before in
@@ -60,7 +53,6 @@ returns-3 c =
     let h : spare (used (a .k)) 2 (a .c) ≡ false = rw (sym (f .before .before .used .ensures)) (was-false (c .before .spare3 .ensures) (c .if3 .taken)) in
     op-third (a .k) (a .a) (a .b) (a .c) (first-left f) (second-left s) h
 
--- src/lib.rt:94:1
 returns-4 : tie.Need-returns-4
 returns-4 c =
     let s = c .before .before in

@@ -14,26 +14,21 @@ use Rattle.listing.proofs.fields.Reads as fields-reads
 use Rattle.text.proofs.has.Reads as has-reads
 use Rattle.text.proofs.until.Reads as until-reads
 
--- src/lib.rt:174:9
 has-requires : tie.Need-has-requires
 has-requires c κs = search needs
 
--- src/lib.rt:175:9
 returns : tie.Need-returns
 unfolding lineOf
 returns c =
     let h : has newline (now (c .before .before .before .args .list)) ≡ false = was-false (c .before .has .ensures) (c .if1 .taken) in
     rw h
 
--- src/lib.rt:177:12
 until-requires : tie.Need-until-requires
 until-requires c κs = search needs
 
--- src/lib.rt:177:5
 fields-requires : tie.Need-fields-requires
 fields-requires c κs = search needs
 
--- src/lib.rt:171:1
 returns-2 : tie.Need-returns-2
 unfolding lineOf
 returns-2 c =

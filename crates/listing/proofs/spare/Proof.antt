@@ -5,12 +5,10 @@ use Rattle.listing.proofs.spare.Tie as tie
 use Rattle.listing.proofs.spare.Reads as reads
 use Rattle.listing.proofs.spare.Lts as lts
 
--- src/lib.rt:88:1
 returns : tie.Need-returns
 unfolding spare
 returns c = simp (lt-ltb _ _ (c .if1 .taken))
 
--- src/lib.rt:88:1
 returns-2 : tie.Need-returns-2
 unfolding spare
 returns-2 c = simp (le-ltb _ _ (c .if1 .left))

@@ -5,7 +5,6 @@ use Rattle.listing.proofs.too_long.Tie as tie
 use Rattle.listing.proofs.too_long.Reads as reads
 use Rattle.listing.proofs.too_long.Lts as lts
 
--- src/lib.rt:172:1
 returns : tie.Need-returns
 unfolding tooLong
 returns c = refl

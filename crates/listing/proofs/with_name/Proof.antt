@@ -6,24 +6,19 @@ use Rattle.listing.proofs.with_name.Reads as reads
 use Rattle.listing.proofs.with_name.Lts as lts
 use Rattle.listing.proofs.make.Reads as make-reads
 
--- src/lib.rt:113:22
 enum-known-n : tie.Need-enum-known-n
 enum-known-n c = search needs
 
--- src/lib.rt:113:28
 make-requires : tie.Need-make-requires
 make-requires c κs = search needs
 
--- src/lib.rt:114:27
 enum-told : tie.Need-enum-told
 enum-told c = search needs
 
--- src/lib.rt:109:1
 returns : tie.Need-returns
 unfolding withName
 returns c = rw (c .before .before .n .given .1) (c .make .ensures)
 
--- src/lib.rt:109:1
 returns-2 : tie.Need-returns-2
 unfolding withName
 returns-2 c = rw (c .enum-told .given .1)

@@ -6,50 +6,39 @@ use Rattle.listing.proofs.with_values.Reads as reads
 use Rattle.listing.proofs.with_values.Lts as lts
 use Rattle.listing.proofs.with_name.Reads as with-name-reads
 
--- src/lib.rt:121:23
 enum-known-a : tie.Need-enum-known-a
 enum-known-a c = search needs
 
--- src/lib.rt:122:9
 enum-told : tie.Need-enum-told
 enum-told c = search needs
 
--- src/lib.rt:122:9
 returns : tie.Need-returns
 unfolding withValues
 returns c = rw (c .enum-told .given .1)
 
--- src/lib.rt:124:23
 enum-known-b : tie.Need-enum-known-b
 enum-known-b c = search needs
 
--- src/lib.rt:125:9
 enum-told-2 : tie.Need-enum-told-2
 enum-told-2 c = search needs
 
--- src/lib.rt:125:9
 returns-2 : tie.Need-returns-2
 unfolding withValues
 returns-2 c = rw (c .before .before .before .a .given .1, c .enum-told2 .given .1)
 
--- src/lib.rt:127:23
 enum-known-c : tie.Need-enum-known-c
 enum-known-c c = search needs
 
--- src/lib.rt:128:9
 enum-told-3 : tie.Need-enum-told-3
 enum-told-3 c = search needs
 
--- src/lib.rt:128:9
 returns-3 : tie.Need-returns-3
 unfolding withValues
 returns-3 c = rw (c .before .before .before .before .before .before .a .given .1, c .before .before .before .b .given .1, c .enum-told3 .given .1)
 
--- src/lib.rt:130:5
 with-name-requires : tie.Need-with-name-requires
 with-name-requires c κs = search needs
 
--- src/lib.rt:118:1
 returns-4 : tie.Need-returns-4
 unfolding withValues
 returns-4 c = rw (c .before .before .before .before .before .before .before .before .a .given .1, c .before .before .before .before .before .b .given .1, c .before .before .c .given .1) (c .with-name .ensures)

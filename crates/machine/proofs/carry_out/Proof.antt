@@ -25,251 +25,193 @@ use Rattle.track.proofs.flush_context.Reads as flush-context-reads
 use Rattle.track.proofs.flush_page.Reads as flush-page-reads
 use Rattle.track.proofs.flush_page_in.Reads as flush-page-in-reads
 
--- src/lib.rt:170:33
 enum-told : tie.Need-enum-told
 enum-told c = search needs
 
--- src/lib.rt:170:33
 size-of-requires : tie.Need-size-of-requires
 size-of-requires c κs = search needs
 
--- src/lib.rt:170:23
 read-requires : tie.Need-read-requires
 read-requires c κs = search needs
 
--- src/lib.rt:171:35
 enum-told-2 : tie.Need-enum-told-2
 enum-told-2 c = search needs
 
--- src/lib.rt:171:35
 size-of-requires-2 : tie.Need-size-of-requires-2
 size-of-requires-2 c κs = search needs
 
--- src/lib.rt:171:24
 write-requires : tie.Need-write-requires
 write-requires c κs = search needs
 
--- src/lib.rt:172:29
 enum-told-3 : tie.Need-enum-told-3
 enum-told-3 c = search needs
 
--- src/lib.rt:172:46
 with-root-requires : tie.Need-with-root-requires
 with-root-requires c κs = search needs
 
--- src/lib.rt:172:23
 carry-requires : tie.Need-carry-requires
 carry-requires c κs = search needs
 
--- src/lib.rt:173:29
 enum-told-4 : tie.Need-enum-told-4
 enum-told-4 c = search needs
 
--- src/lib.rt:173:46
 with-context-requires : tie.Need-with-context-requires
 with-context-requires c κs = search needs
 
--- src/lib.rt:173:23
 carry-requires-2 : tie.Need-carry-requires-2
 carry-requires-2 c κs = search needs
 
--- src/lib.rt:174:29
 enum-told-5 : tie.Need-enum-told-5
 enum-told-5 c = search needs
 
--- src/lib.rt:174:46
 with-mode-requires : tie.Need-with-mode-requires
 with-mode-requires c κs = search needs
 
--- src/lib.rt:174:23
 carry-requires-3 : tie.Need-carry-requires-3
 carry-requires-3 c κs = search needs
 
--- src/lib.rt:176:30
 enum-told-6 : tie.Need-enum-told-6
 enum-told-6 c = search needs
 
--- src/lib.rt:176:13
 flush-all-requires : tie.Need-flush-all-requires
 flush-all-requires c κs = search needs
 
--- src/lib.rt:177:13
 carry-requires-4 : tie.Need-carry-requires-4
 carry-requires-4 c κs = search needs
 
--- src/lib.rt:180:31
 enum-told-7 : tie.Need-enum-told-7
 enum-told-7 c = search needs
 
--- src/lib.rt:180:34
 cast-flush-page : tie.Need-cast-flush-page
 cast-flush-page c = search needs
 
--- src/lib.rt:180:13
 flush-page-requires : tie.Need-flush-page-requires
 flush-page-requires c κs = search needs
 
--- src/lib.rt:181:13
 carry-requires-5 : tie.Need-carry-requires-5
 carry-requires-5 c κs = search needs
 
--- src/lib.rt:184:34
 enum-told-8 : tie.Need-enum-told-8
 enum-told-8 c = search needs
 
--- src/lib.rt:184:37
 cast-flush-context : tie.Need-cast-flush-context
 cast-flush-context c = search needs
 
--- src/lib.rt:184:13
 flush-context-requires : tie.Need-flush-context-requires
 flush-context-requires c κs = search needs
 
--- src/lib.rt:185:13
 carry-requires-6 : tie.Need-carry-requires-6
 carry-requires-6 c κs = search needs
 
--- src/lib.rt:188:34
 enum-told-9 : tie.Need-enum-told-9
 enum-told-9 c = search needs
 
--- src/lib.rt:188:37
 cast-flush-page-in : tie.Need-cast-flush-page-in
 cast-flush-page-in c = search needs
 
--- src/lib.rt:188:51
 cast-flush-page-in-2 : tie.Need-cast-flush-page-in-2
 cast-flush-page-in-2 c = search needs
 
--- src/lib.rt:188:13
 flush-page-in-requires : tie.Need-flush-page-in-requires
 flush-page-in-requires c κs = search needs
 
--- src/lib.rt:189:13
 carry-requires-7 : tie.Need-carry-requires-7
 carry-requires-7 c κs = search needs
 
--- src/lib.rt:166:1
 same-length : tie.Need-same-length
 same-length c = search needs
 
--- src/lib.rt:166:1
 same-length-2 : tie.Need-same-length-2
 same-length-2 c = search needs
 
--- src/lib.rt:166:1
 returns : tie.Need-returns
 unfolding operate
 returns c = let k = c .before .before in let z = k .before .before .before in let e = z .before in let a = e .before .before .before .before .args in
     regive _ _ _ _ _ (ap (λ (s : Size). readStep (a .o .a) s (a .r) (now (a .m)) (now (a .t))) (z .size-of .ensures) ∙ sym (ap (λ (w : Kind). operate w (a .o) (a .r) (now (a .m)) (now (a .t))) (e .enum-told .given .1))) (k .read .ensures)
 
--- src/lib.rt:166:1
 same-length-3 : tie.Need-same-length-3
 same-length-3 c = search needs
 
--- src/lib.rt:166:1
 same-length-4 : tie.Need-same-length-4
 same-length-4 c = search needs
 
--- src/lib.rt:166:1
 returns-2 : tie.Need-returns-2
 unfolding operate
 returns-2 c = let k = c .before .before .before .before in let z = k .before .before .before in let e = z .before in let a = e .before .before .before .before .args in
     regive _ _ _ _ _ (ap (λ (s : Size). writeStep (a .o .a) s (a .o .c) (a .r) (now (a .m)) (now (a .t))) (z .size-of2 .ensures) ∙ sym (ap (λ (w : Kind). operate w (a .o) (a .r) (now (a .m)) (now (a .t))) (e .enum-told2 .given .1))) (k .write .ensures)
 
--- src/lib.rt:166:1
 same-length-5 : tie.Need-same-length-5
 same-length-5 c = search needs
 
--- src/lib.rt:166:1
 same-length-6 : tie.Need-same-length-6
 same-length-6 c = search needs
 
--- src/lib.rt:166:1
 returns-3 : tie.Need-returns-3
 unfolding operate
 returns-3 c = let k = c .before .before in let z = k .before .before .before in let e = z .before in let a = e .before .before .before .before .args in
     regive _ _ _ _ _ (ap (λ (x : Registers). carried (Done 0) x (now (a .m)) (now (a .t))) (z .with-root .ensures) ∙ sym (ap (λ (w : Kind). operate w (a .o) (a .r) (now (a .m)) (now (a .t))) (e .enum-told3 .given .1))) (k .carry .ensures)
 
--- src/lib.rt:166:1
 same-length-7 : tie.Need-same-length-7
 same-length-7 c = search needs
 
--- src/lib.rt:166:1
 same-length-8 : tie.Need-same-length-8
 same-length-8 c = search needs
 
--- src/lib.rt:166:1
 returns-4 : tie.Need-returns-4
 unfolding operate
 returns-4 c = let k = c .before .before in let z = k .before .before .before in let e = z .before in let a = e .before .before .before .before .args in
     regive _ _ _ _ _ (ap (λ (x : Registers). carried (Done 0) x (now (a .m)) (now (a .t))) (z .with-context .ensures) ∙ sym (ap (λ (w : Kind). operate w (a .o) (a .r) (now (a .m)) (now (a .t))) (e .enum-told4 .given .1))) (k .carry2 .ensures)
 
--- src/lib.rt:166:1
 same-length-9 : tie.Need-same-length-9
 same-length-9 c = search needs
 
--- src/lib.rt:166:1
 same-length-10 : tie.Need-same-length-10
 same-length-10 c = search needs
 
--- src/lib.rt:166:1
 returns-5 : tie.Need-returns-5
 unfolding operate
 returns-5 c = let k = c .before .before in let z = k .before .before .before in let e = z .before in let a = e .before .before .before .before .args in
     regive _ _ _ _ _ (ap (λ (x : Registers). carried (Done 0) x (now (a .m)) (now (a .t))) (z .with-mode .ensures) ∙ sym (ap (λ (w : Kind). operate w (a .o) (a .r) (now (a .m)) (now (a .t))) (e .enum-told5 .given .1))) (k .carry3 .ensures)
 
--- src/lib.rt:166:1
 same-length-11 : tie.Need-same-length-11
 same-length-11 c = search needs
 
--- src/lib.rt:166:1
 same-length-12 : tie.Need-same-length-12
 same-length-12 c = search needs
 
--- src/lib.rt:166:1
 returns-6 : tie.Need-returns-6
 unfolding operate
 returns-6 c = let k = c .before .before in let f = k .before .before .before .before .before in let e = f .before .before in let a = e .before .before .before .before .args in
     regive _ _ _ _ _ (ap (λ (z : List ℕ). carried (Done 0) (a .r) (now (a .m)) z) (f .flush-all .ensures) ∙ sym (ap (λ (w : Kind). operate w (a .o) (a .r) (now (a .m)) (now (a .t))) (e .enum-told6 .given .1))) (k .carry4 .ensures)
 
--- src/lib.rt:166:1
 same-length-13 : tie.Need-same-length-13
 same-length-13 c = search needs
 
--- src/lib.rt:166:1
 same-length-14 : tie.Need-same-length-14
 same-length-14 c = search needs
 
--- src/lib.rt:166:1
 returns-7 : tie.Need-returns-7
 unfolding operate
 returns-7 c = let k = c .before .before in let f = k .before .before .before .before .before in let e = f .before .before .before in let a = e .before .before .before .before .args in
     regive _ _ _ _ _ (ap (λ (z : List ℕ). carried (Done 0) (a .r) (now (a .m)) z) (f .flush-page .ensures) ∙ sym (ap (λ (w : Kind). operate w (a .o) (a .r) (now (a .m)) (now (a .t))) (e .enum-told7 .given .1))) (k .carry5 .ensures)
 
--- src/lib.rt:166:1
 same-length-15 : tie.Need-same-length-15
 same-length-15 c = search needs
 
--- src/lib.rt:166:1
 same-length-16 : tie.Need-same-length-16
 same-length-16 c = search needs
 
--- src/lib.rt:166:1
 returns-8 : tie.Need-returns-8
 unfolding operate
 returns-8 c = let k = c .before .before in let f = k .before .before .before .before .before in let e = f .before .before .before in let a = e .before .before .before .before .args in
     regive _ _ _ _ _ (ap (λ (z : List ℕ). carried (Done 0) (a .r) (now (a .m)) z) (f .flush-context .ensures) ∙ sym (ap (λ (w : Kind). operate w (a .o) (a .r) (now (a .m)) (now (a .t))) (e .enum-told8 .given .1))) (k .carry6 .ensures)
 
--- src/lib.rt:166:1
 same-length-17 : tie.Need-same-length-17
 same-length-17 c = search needs
 
--- src/lib.rt:166:1
 same-length-18 : tie.Need-same-length-18
 same-length-18 c = search needs
 
--- src/lib.rt:166:1
 returns-9 : tie.Need-returns-9
 unfolding operate
 returns-9 c = let k = c .before .before in let f = k .before .before .before .before .before in let e = f .before .before .before .before in let a = e .before .before .before .before .args in

@@ -19,37 +19,29 @@ use Rattle.checks.proofs.check_start.Reads as check-start-reads
 use Rattle.transfer.proofs.carry.Reads as carry-reads
 use Rattle.track.proofs.flush_all.Reads as flush-all-reads
 
--- src/lib.rt:181:11
 check-start-requires : tie.Need-check-start-requires
 check-start-requires c κs = search needs
 
--- src/lib.rt:182:23
 enum-known-n : tie.Need-enum-known-n
 enum-known-n c = search needs
 
--- src/lib.rt:184:30
 enum-told : tie.Need-enum-told
 enum-told c = search needs
 
--- src/lib.rt:184:13
 flush-all-requires : tie.Need-flush-all-requires
 flush-all-requires c κs = search needs
 
--- src/lib.rt:185:13
 carry-requires : tie.Need-carry-requires
 carry-requires c κs = search needs
 
--- src/lib.rt:178:1
 returns : tie.Need-returns
 unfolding started
 returns c = let n = c .before in let h = n .before .before in let a = h .before .before .before .args in
     turned _ _ _ _ _ (sym (ap (λ (z : Check). startedBy z (now (a .m)) (now (a .t)) (a .root)) (sym (h .check-start .ensures) ∙ n .n .given .1)))
 
--- src/lib.rt:178:1
 same-length : tie.Need-same-length
 same-length c = search needs
 
--- src/lib.rt:178:1
 returns-2 : tie.Need-returns-2
 unfolding started
 returns-2 c = let k = c .before .before in let f = k .before .before .before .before in let e = f .before .before in let h = e .before .before in let a = h .before .before .before .args in

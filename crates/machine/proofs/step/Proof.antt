@@ -17,37 +17,29 @@ use Rattle.machine.proofs.step.Lts as lts
 use Rattle.checks.proofs.check.Reads as check-reads
 use Rattle.machine.proofs.carry_out.Reads as carry-out-reads
 
--- src/lib.rt:168:11
 check-requires : tie.Need-check-requires
 check-requires c κs = search needs
 
--- src/lib.rt:169:23
 enum-known-n : tie.Need-enum-known-n
 enum-known-n c = search needs
 
--- src/lib.rt:171:17
 enum-told : tie.Need-enum-told
 enum-told c = search needs
 
--- src/lib.rt:172:13
 carry-out-requires : tie.Need-carry-out-requires
 carry-out-requires c κs = search needs
 
--- src/lib.rt:165:1
 returns : tie.Need-returns
 unfolding stepped
 returns c = let n = c .before in let h = n .before .before in let a = h .before .before .before .args in
     turned _ _ _ _ _ (sym (ap (λ (z : Check). checked z (a .o) (a .r) (now (a .m)) (now (a .t))) (sym (h .check .ensures) ∙ n .n .given .1)))
 
--- src/lib.rt:165:1
 same-length : tie.Need-same-length
 same-length c = search needs
 
--- src/lib.rt:165:1
 same-length-2 : tie.Need-same-length-2
 same-length-2 c = search needs
 
--- src/lib.rt:165:1
 returns-2 : tie.Need-returns-2
 unfolding stepped
 returns-2 c = let k = c .before .before .before .before in let e = k .before .before .before in let h = e .before .before in let a = h .before .before .before .args in

@@ -5,27 +5,21 @@ use Rattle.memory.proofs.four.Reads as reads
 use Rattle.memory.proofs.four.Lts as lts
 use Rattle.memory.proofs.two.Reads as two-reads
 
--- src/lib.rt:60:5
 two-requires : tie.Need-two-requires
 two-requires c κs = search needs
 
--- src/lib.rt:60:33
 add-two : tie.Need-add-two
 add-two c = search needs
 
--- src/lib.rt:60:26
 two-requires-2 : tie.Need-two-requires-2
 two-requires-2 c κs = search needs
 
--- src/lib.rt:60:18
 mul-result : tie.Need-mul-result
 mul-result c = search needs
 
--- src/lib.rt:60:5
 add-result : tie.Need-add-result
 add-result c = search needs
 
--- src/lib.rt:56:1
 returns : tie.Need-returns
 returns c = search needs
 

@@ -12,27 +12,22 @@ use Rattle.memory.proofs.inside.Reads as reads
 use Rattle.memory.proofs.inside.Lts as lts
 use Rattle.memory.proofs.bytes.Reads as bytes-reads
 
--- src/lib.rt:41:9
 bytes-requires : tie.Need-bytes-requires
 bytes-requires c κs = search needs
 
--- src/lib.rt:43:9
 returns : tie.Need-returns
 unfolding within
 returns c = let a = c .before .before .before .args in
     sym (lt-leb (a .at + bytesOf (a .size)) (length (now (a .m))) (omega arith))
 
--- src/lib.rt:45:8
 sub-if2 : tie.Need-sub-if2
 sub-if2 c = search needs
 
--- src/lib.rt:46:9
 returns-2 : tie.Need-returns-2
 unfolding within
 returns-2 c = let a = c .before .before .before .before .args in
     sym (lt-leb (a .at + bytesOf (a .size)) (length (now (a .m))) (omega arith))
 
--- src/lib.rt:38:1
 returns-3 : tie.Need-returns-3
 unfolding within
 returns-3 c = let a = c .before .before .before .before .args in

@@ -11,53 +11,42 @@ use Rattle.memory.proofs.inside.Reads as inside-reads
 use Rattle.memory.proofs.one.Reads as one-reads
 use Rattle.memory.proofs.two.Reads as two-reads
 
--- src/lib.rt:65:8
 inside-requires : tie.Need-inside-requires
 inside-requires c κs = search needs
 
--- src/lib.rt:67:40
 enum-told : tie.Need-enum-told
 enum-told c = search needs
 
--- src/lib.rt:67:40
 one-requires : tie.Need-one-requires
 one-requires c κs = let at-inside = c .before .before .before in let a = at-inside .before .before .args in
     fits (now (a .m)) (a .at) (a .size) _ (at-inside .inside .ensures) One (c .enum-told .given .1) (c .before .before .if1 .taken)
 
--- src/lib.rt:68:40
 enum-told-2 : tie.Need-enum-told-2
 enum-told-2 c = search needs
 
--- src/lib.rt:68:40
 two-requires : tie.Need-two-requires
 two-requires c κs = let at-inside = c .before .before .before in let a = at-inside .before .before .args in
     fits (now (a .m)) (a .at) (a .size) _ (at-inside .inside .ensures) Two (c .enum-told2 .given .1) (c .before .before .if1 .taken)
 
--- src/lib.rt:69:41
 enum-told-3 : tie.Need-enum-told-3
 enum-told-3 c = search needs
 
--- src/lib.rt:69:41
 four-requires : tie.Need-four-requires
 four-requires c κs = let at-inside = c .before .before .before in let a = at-inside .before .before .args in
     fits (now (a .m)) (a .at) (a .size) _ (at-inside .inside .ensures) Four (c .enum-told3 .given .1) (c .before .before .if1 .taken)
 
--- src/lib.rt:62:1
 returns : tie.Need-returns
 returns c = let at-inside = c .before .before .before .before in let a = at-inside .before .before .args in
     loaded (now (a .m)) (a .at) (a .size) _ (at-inside .inside .ensures) One (c .before .enum-told .given .1) (c .before .before .before .if1 .taken) _ (c .one .ensures)
 
--- src/lib.rt:62:1
 returns-2 : tie.Need-returns-2
 returns-2 c = let at-inside = c .before .before .before .before in let a = at-inside .before .before .args in
     loaded (now (a .m)) (a .at) (a .size) _ (at-inside .inside .ensures) Two (c .before .enum-told2 .given .1) (c .before .before .before .if1 .taken) _ (c .two .ensures .0)
 
--- src/lib.rt:62:1
 returns-3 : tie.Need-returns-3
 returns-3 c = let at-inside = c .before .before .before .before in let a = at-inside .before .before .args in
     loaded (now (a .m)) (a .at) (a .size) _ (at-inside .inside .ensures) Four (c .before .enum-told3 .given .1) (c .before .before .before .if1 .taken) _ (c .four .ensures)
 
--- src/lib.rt:62:1
 returns-4 : tie.Need-returns-4
 returns-4 c = let a = c .before .before .before .args in
     not-loaded (now (a .m)) (a .at) (a .size) _ (c .before .inside .ensures) (c .if1 .left)

@@ -12,75 +12,60 @@ use Rattle.memory.proofs.put_four.Reads as put-four-reads
 use Rattle.memory.proofs.put_one.Reads as put-one-reads
 use Rattle.memory.proofs.put_two.Reads as put-two-reads
 
--- src/lib.rt:103:8
 inside-requires : tie.Need-inside-requires
 inside-requires c κs = search needs
 
--- src/lib.rt:105:34
 enum-told : tie.Need-enum-told
 enum-told c = search needs
 
--- src/lib.rt:105:26
 put-one-requires : tie.Need-put-one-requires
 put-one-requires c κs = let t = c .before .before .before in let a = t .before .before .before .before .args in
     fits (now (a .m)) (a .at) (a .size) _ (t .before .inside .ensures) One (c .before .enum-told .given .1) (t .if1 .taken)
 
--- src/lib.rt:106:34
 enum-told-2 : tie.Need-enum-told-2
 enum-told-2 c = search needs
 
--- src/lib.rt:106:26
 put-two-requires : tie.Need-put-two-requires
 put-two-requires c κs = let t = c .before .before .before in let a = t .before .before .before .before .args in
     fits (now (a .m)) (a .at) (a .size) _ (t .before .inside .ensures) Two (c .before .enum-told2 .given .1) (t .if1 .taken)
 
--- src/lib.rt:107:36
 enum-told-3 : tie.Need-enum-told-3
 enum-told-3 c = search needs
 
--- src/lib.rt:107:27
 put-four-requires : tie.Need-put-four-requires
 put-four-requires c κs = let t = c .before .before .before in let a = t .before .before .before .before .args in
     fits (now (a .m)) (a .at) (a .size) _ (t .before .inside .ensures) Four (c .before .enum-told3 .given .1) (t .if1 .taken)
 
--- src/lib.rt:100:1
 same-length : tie.Need-same-length
 same-length c = search needs
 
--- src/lib.rt:100:1
 returns : tie.Need-returns
 returns c = let p = c .before .before in let t = p .before .before .before .before in let a = t .before .before .before .before .args in (
   sym (t .if1 .taken) ∙ t .before .inside .ensures,
   stored (now (a .m)) (a .at) (a .size) _ (t .before .inside .ensures) One (p .before .before .enum-told .given .1) (t .if1 .taken) (a .v) _ (p .put-one .ensures),
 )
 
--- src/lib.rt:100:1
 same-length-2 : tie.Need-same-length-2
 same-length-2 c = search needs
 
--- src/lib.rt:100:1
 returns-2 : tie.Need-returns-2
 returns-2 c = let p = c .before .before in let t = p .before .before .before .before in let a = t .before .before .before .before .args in (
   sym (t .if1 .taken) ∙ t .before .inside .ensures,
   stored (now (a .m)) (a .at) (a .size) _ (t .before .inside .ensures) Two (p .before .before .enum-told2 .given .1) (t .if1 .taken) (a .v) _ (p .put-two .ensures),
 )
 
--- src/lib.rt:100:1
 same-length-3 : tie.Need-same-length-3
 same-length-3 c = search needs
 
--- src/lib.rt:100:1
 returns-3 : tie.Need-returns-3
 returns-3 c = let p = c .before .before in let t = p .before .before .before .before in let a = t .before .before .before .before .args in (
   sym (t .if1 .taken) ∙ t .before .inside .ensures,
   stored (now (a .m)) (a .at) (a .size) _ (t .before .inside .ensures) Four (p .before .before .enum-told3 .given .1) (t .if1 .taken) (a .v) _ (p .put-four .ensures),
 )
 
--- src/lib.rt:100:1
 same-length-4 : tie.Need-same-length-4
 same-length-4 c = search needs
 
--- src/lib.rt:100:1
 returns-4 : tie.Need-returns-4
 returns-4 c = let a = c .before .before .before .before .args in (
   sym (c .if1 .left) ∙ c .before .inside .ensures,

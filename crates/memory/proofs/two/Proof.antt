@@ -5,35 +5,27 @@ use Rattle.memory.proofs.two.Reads as reads
 use Rattle.memory.proofs.two.Lts as lts
 use Rattle.memory.proofs.wide.Reads as wide-reads
 
--- src/lib.rt:53:10
 shared-slice-read-wide : tie.Need-shared-slice-read-wide
 shared-slice-read-wide c = search needs
 
--- src/lib.rt:53:5
 wide-requires : tie.Need-wide-requires
 wide-requires c κs = search needs
 
--- src/lib.rt:53:32
 add-wide : tie.Need-add-wide
 add-wide c = search needs
 
--- src/lib.rt:53:30
 shared-slice-read-wide-2 : tie.Need-shared-slice-read-wide-2
 shared-slice-read-wide-2 c = search needs
 
--- src/lib.rt:53:25
 wide-requires-2 : tie.Need-wide-requires-2
 wide-requires-2 c κs = search needs
 
--- src/lib.rt:53:19
 mul-result : tie.Need-mul-result
 mul-result c = search needs
 
--- src/lib.rt:53:5
 add-result : tie.Need-add-result
 add-result c = search needs
 
--- src/lib.rt:49:1
 returns : tie.Need-returns
 returns c = search needs
 

@@ -10,29 +10,23 @@ use Rattle.names.proofs.put_name.Lts as lts
 use Rattle.names.proofs.copy_name.Reads as copy-name-reads
 use Rattle.text.proofs.has_room.Reads as has-room-reads
 
--- src/lib.rt:53:8
 has-room-requires : tie.Need-has-room-requires
 has-room-requires c κs = search needs
 
--- src/lib.rt:54:9
 copy-name-requires : tie.Need-copy-name-requires
 copy-name-requires c κs = let i = c .before in let h = i .before in let a = h .before .before .before .args in
     room-left 7 (now (a .out)) (a .at) (name (a .k)) (sym (h .has-room .ensures) ∙ i .if1 .taken)
 
--- src/lib.rt:54:9
 same-length : tie.Need-same-length
 same-length c = search needs
 
--- src/lib.rt:54:9
 returns : tie.Need-returns
 returns c = let k = c .before .before in let i = k .before .before in let h = i .before in let a = h .before .before .before .args in
     wrote-yes 7 (now (a .out)) (a .at) (name (a .k)) _ _ (sym (h .has-room .ensures) ∙ i .if1 .taken) (k .copy-name .ensures)
 
--- src/lib.rt:50:1
 same-length-2 : tie.Need-same-length-2
 same-length-2 c = search needs
 
--- src/lib.rt:50:1
 returns-2 : tie.Need-returns-2
 returns-2 c = let h = c .before in let a = h .before .before .before .args in
     wrote-no 7 (now (a .out)) (a .at) (name (a .k)) (sym (h .has-room .ensures) ∙ c .if1 .left)

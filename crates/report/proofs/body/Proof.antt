@@ -20,51 +20,39 @@ use Rattle.machine.proofs.start.Reads as start-reads
 use Rattle.report.proofs.read_list.Reads as read-list-reads
 use Rattle.rows.proofs.put_start.Reads as put-start-reads
 
--- src/lib.rt:81:9
 start-requires : tie.Need-start-requires
 start-requires c κs = search needs
 
--- src/lib.rt:85:25
 enum-known-answer : tie.Need-enum-known-answer
 enum-known-answer c = search needs
 
--- src/lib.rt:85:56
 refusal-number-requires : tie.Need-refusal-number-requires
 refusal-number-requires c κs = search needs
 
--- src/lib.rt:85:31
 put-start-requires : tie.Need-put-start-requires
 put-start-requires c κs = search needs
 
--- src/lib.rt:86:41
 enum-told : tie.Need-enum-told
 enum-told c = search needs
 
--- src/lib.rt:86:28
 read-list-requires : tie.Need-read-list-requires
 read-list-requires c κs = search needs
 
--- src/lib.rt:87:44
 enum-told-2 : tie.Need-enum-told-2
 enum-told-2 c = search needs
 
--- src/lib.rt:87:31
 read-list-requires-2 : tie.Need-read-list-requires-2
 read-list-requires-2 c κs = search needs
 
--- src/lib.rt:77:1
 same-length : tie.Need-same-length
 same-length c = search needs
 
--- src/lib.rt:77:1
 same-length-2 : tie.Need-same-length-2
 same-length-2 c = search needs
 
--- src/lib.rt:77:1
 same-length-3 : tie.Need-same-length-3
 same-length-3 c = search needs
 
--- src/lib.rt:77:1
 returns : tie.Need-returns
 returns c =
     let w = c .before .before in
@@ -80,19 +68,15 @@ returns c =
     (body-refused m t l k (sym (g .start .ensures .answer) ∙ e .answer .given .1)) (g .start .ensures .memory) (g .start .ensures .track) (omega (arith, c .before .before .before .before .before .before .before .before .before .before .before .before .before .before .before .before .before .before .pre))
     (rw (sym (n .refusal-number .ensures .0)) (w .put-start .ensures))
 
--- src/lib.rt:77:1
 same-length-4 : tie.Need-same-length-4
 same-length-4 c = search needs
 
--- src/lib.rt:77:1
 same-length-5 : tie.Need-same-length-5
 same-length-5 c = search needs
 
--- src/lib.rt:77:1
 same-length-6 : tie.Need-same-length-6
 same-length-6 c = search needs
 
--- src/lib.rt:77:1
 returns-2 : tie.Need-returns-2
 returns-2 c =
     let w = c .before .before .before .before .before .before in
@@ -106,19 +90,15 @@ returns-2 c =
     (carried-from (started m t 0) _ _ _ (readList l) (g .start .ensures .registers) (g .start .ensures .memory) (g .start .ensures .track)
     ∙ sym (body-done m t l _ (sym (g .start .ensures .answer) ∙ e .enum-told .given .1))) (w .read-list .ensures)
 
--- src/lib.rt:77:1
 same-length-7 : tie.Need-same-length-7
 same-length-7 c = search needs
 
--- src/lib.rt:77:1
 same-length-8 : tie.Need-same-length-8
 same-length-8 c = search needs
 
--- src/lib.rt:77:1
 same-length-9 : tie.Need-same-length-9
 same-length-9 c = search needs
 
--- src/lib.rt:77:1
 returns-3 : tie.Need-returns-3
 returns-3 c =
     let w = c .before .before .before .before .before .before in

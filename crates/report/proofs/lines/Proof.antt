@@ -31,53 +31,41 @@ Inv-loop m₀ t₀ list out₀ at regs₀ left₀ place₀ line₀ m t out regs 
 abbrev μ-loop : tie.MeasureT-loop
 μ-loop m₀ t₀ list out₀ at regs₀ left₀ place₀ line₀ m t out regs left place line = length left
 
--- src/lib.rt:42:5
 loop-holds : tie.Need-loop-holds Inv-loop μ-loop
 loop-holds c =
     let a = c .before .before .before .before in
     (running-start _ (now (a .args .list)) (now (a .args .out)) (a .args .at) (a .pre .0) (a .pre .1), (refl, refl))
 
--- src/lib.rt:43:15
 read-line-requires : tie.Need-read-line-requires Inv-loop μ-loop
 read-line-requires c κs = search needs
 
--- src/lib.rt:44:22
 enum-known-o : tie.Need-enum-known-o Inv-loop μ-loop
 enum-known-o c = search needs
 
--- src/lib.rt:45:21
 step-requires : tie.Need-step-requires Inv-loop μ-loop
 step-requires c κs = search needs
 
--- src/lib.rt:49:17
 put-row-requires : tie.Need-put-row-requires Inv-loop μ-loop
 put-row-requires c κs = search needs
 
--- src/lib.rt:51:27
 enum-known-x : tie.Need-enum-known-x Inv-loop μ-loop
 enum-known-x c = search needs
 
--- src/lib.rt:52:60
 list-number-requires : tie.Need-list-number-requires Inv-loop μ-loop
 list-number-requires c κs = search needs
 
--- src/lib.rt:52:17
 put-refusal-requires : tie.Need-put-refusal-requires Inv-loop μ-loop
 put-refusal-requires c κs = search needs
 
--- src/lib.rt:52:17
 same-length : tie.Need-same-length Inv-loop μ-loop
 same-length c = c .before .before .before .before .before .before .before .before .before .before .loop .inv .1 .0
 
--- src/lib.rt:52:17
 same-length-2 : tie.Need-same-length-2 Inv-loop μ-loop
 same-length-2 c = c .before .before .before .before .before .before .before .before .before .before .loop .inv .1 .1
 
--- src/lib.rt:52:17
 same-length-3 : tie.Need-same-length-3 Inv-loop μ-loop
 same-length-3 c = search needs
 
--- src/lib.rt:52:17
 returns : tie.Need-returns Inv-loop μ-loop
 returns c =
     let w = c .before .before in
@@ -88,11 +76,9 @@ returns c =
     running-refused (l .loop .inv .0) (x .x .given .0 .0) (w .put-refusal .last .0) (w .put-refusal .result) (r .before .loop-test .taken) (sym (r .read-line .ensures) ∙ x .x .given .1)
     (rw (sym (n .list-number .ensures .0)) (w .put-refusal .ensures))
 
--- src/lib.rt:55:13
 rest-requires : tie.Need-rest-requires Inv-loop μ-loop
 rest-requires c κs = search needs
 
--- src/lib.rt:57:9
 add-line : tie.Need-add-line Inv-loop μ-loop
 add-line c = omega (arith, c .before .before .before .before .before .before .before .before .before .before .before .before .before .before .before .before .before .before .loop .inv .0 .lines)
 
@@ -103,11 +89,9 @@ op c = c .before .before .before .before .before .before .before .before .before
 op-line : (c : tie.After-rest Inv-loop μ-loop) → lineOf (now (c .before .before .before .before .before .before .before .before .before .before .before .before .before .before .before .before .before .before .loop .left)) ≡ Op (op c)
 op-line c = let o = c .before .before .before .before .before .before .before .before .before .before .before .before .before .before in sym (o .before .before .read-line .ensures) ∙ o .o .given .1
 
--- src/lib.rt:42:5
 loop-less : tie.Need-loop-less Inv-loop μ-loop
 loop-less c = omega (arith, ap length (c .rest .ensures), line-rest (op c) (now (c .before .before .before .before .before .before .before .before .before .before .before .before .before .before .before .before .before .before .loop .left)) (op-line c))
 
--- src/lib.rt:42:5
 loop-again : tie.Need-loop-again Inv-loop μ-loop
 loop-again c =
     let l = c .before .before .before .before .before .before .before .before .before .before .before .before .before .before .before .before .before .before in
@@ -118,19 +102,15 @@ loop-again c =
       (s .kept .1 .1 .0 ∙ l .loop .inv .1 .0, s .kept .1 .1 .1 .0 ∙ l .loop .inv .1 .1),
     )
 
--- src/lib.rt:33:1
 same-length-4 : tie.Need-same-length-4 Inv-loop μ-loop
 same-length-4 c = c .before .loop .inv .1 .0
 
--- src/lib.rt:33:1
 same-length-5 : tie.Need-same-length-5 Inv-loop μ-loop
 same-length-5 c = c .before .loop .inv .1 .1
 
--- src/lib.rt:33:1
 same-length-6 : tie.Need-same-length-6 Inv-loop μ-loop
 same-length-6 c = c .before .loop .inv .0 .long
 
--- src/lib.rt:33:1
 returns-2 : tie.Need-returns-2 Inv-loop μ-loop
 returns-2 c = running-end (c .before .loop .inv .0) (c .loop-test .left)
 

@@ -8,13 +8,11 @@ use Rattle.report.proofs.memory_length.Tie as tie
 use Rattle.report.proofs.memory_length.Reads as reads
 use Rattle.report.proofs.memory_length.Lts as lts
 
--- src/lib.rt:27:9
 returns : tie.Need-returns
 returns c =
     let h : leb (c .before .args .n) imageLimit ≡ true = le-leb _ _ (c .if1 .taken) in
     simp h
 
--- src/lib.rt:23:1
 returns-2 : tie.Need-returns-2
 returns-2 c =
     let h : leb (c .before .args .n) imageLimit ≡ false = lt-leb _ _ (c .if1 .left) in

@@ -25,37 +25,29 @@ use Rattle.listing.proofs.too_long.Reads as too-long-reads
 use Rattle.report.proofs.lines.Reads as lines-reads
 use Rattle.rows.proofs.put_refusal.Reads as put-refusal-reads
 
--- src/lib.rt:67:8
 too-long-requires : tie.Need-too-long-requires
 too-long-requires c κs = search needs
 
--- src/lib.rt:68:46
 list-number-requires : tie.Need-list-number-requires
 list-number-requires c κs = search needs
 
--- src/lib.rt:68:9
 put-refusal-requires : tie.Need-put-refusal-requires
 put-refusal-requires c κs = search needs
 
--- src/lib.rt:68:9
 same-length : tie.Need-same-length
 same-length c = search needs
 
--- src/lib.rt:68:9
 returns : tie.Need-returns
 returns c = let w = c .before .before in let n = w .before in let i = n .before .before in let h = i .before in let a = h .before .before .before .before .before in
     ran-stopped _ (now (a .args .list)) TooLong _ (read-long (now (a .args .list)) (sym (h .too-long .ensures) ∙ i .if1 .taken)) (omega (arith, a .pre))
     (n .list-number .ensures .0) (w .put-refusal .ensures)
 
--- src/lib.rt:70:8
 has-names-requires : tie.Need-has-names-requires
 has-names-requires c κs = search needs
 
--- src/lib.rt:71:31
 rest-requires : tie.Need-rest-requires
 rest-requires c κs = search needs
 
--- src/lib.rt:71:9
 lines-requires : tie.Need-lines-requires
 lines-requires c κs =
     let f = c .before in
@@ -65,19 +57,15 @@ lines-requires c κs =
     let b = not-long l (sym (h .too-long .ensures) ∙ c .before .before .before .before .before .before .if1 .left) in
     (omega (arith, ap length (f .rest .ensures), past-length newline l, b), omega (arith, ap length (f .rest .ensures), past-length newline l, b, a .pre))
 
--- src/lib.rt:71:9
 same-length-2 : tie.Need-same-length-2
 same-length-2 c = search needs
 
--- src/lib.rt:71:9
 same-length-3 : tie.Need-same-length-3
 same-length-3 c = search needs
 
--- src/lib.rt:71:9
 same-length-4 : tie.Need-same-length-4
 same-length-4 c = search needs
 
--- src/lib.rt:71:9
 returns-2 : tie.Need-returns-2
 returns-2 c =
     let w = c .before .before .before .before .before .before in
@@ -91,19 +79,15 @@ returns-2 c =
     (ap (λ (z : List ℕ). carriedOut 2 x (readRest z)) (f .rest .ensures)
     ∙ sym (ap (carriedOut 2 x) (read-names l (sym (h .too-long .ensures) ∙ c .before .before .before .before .before .before .before .before .before .before .before .before .before .if1 .left) (sym (i .before .has-names .ensures) ∙ i .if2 .taken)))) (w .lines .ensures)
 
--- src/lib.rt:73:35
 list-number-requires-2 : tie.Need-list-number-requires-2
 list-number-requires-2 c κs = search needs
 
--- src/lib.rt:73:5
 put-refusal-requires-2 : tie.Need-put-refusal-requires-2
 put-refusal-requires-2 c κs = search needs
 
--- src/lib.rt:63:1
 same-length-5 : tie.Need-same-length-5
 same-length-5 c = search needs
 
--- src/lib.rt:63:1
 returns-3 : tie.Need-returns-3
 returns-3 c = let w = c .before .before in let n = w .before in let i = n .before .before in let j = i .before .before in let h = j .before in let a = h .before .before .before .before .before in
     ran-stopped _ (now (a .args .list)) Names _

@@ -16,11 +16,9 @@ use Rattle.report.proofs.whole.Lts as lts
 use Rattle.report.proofs.body.Reads as body-reads
 use Rattle.rows.proofs.put_header.Reads as put-header-reads
 
--- src/lib.rt:95:9
 put-header-requires : tie.Need-put-header-requires
 put-header-requires c κs = search needs
 
--- src/lib.rt:96:5
 body-requires : tie.Need-body-requires
 body-requires c κs =
     let w = c .before .before .before .before .before in
@@ -29,19 +27,15 @@ body-requires c κs =
     let f = wrote-fits (length header) d 0 header _ _ (omega (arith, a .pre)) (w .put-header .ensures) in
     omega (arith, f .0, ap length (f .1) ∙ length-over d 0 header (omega (arith, a .pre)), a .pre)
 
--- src/lib.rt:91:1
 same-length : tie.Need-same-length
 same-length c = search needs
 
--- src/lib.rt:91:1
 same-length-2 : tie.Need-same-length-2
 same-length-2 c = search needs
 
--- src/lib.rt:91:1
 same-length-3 : tie.Need-same-length-3
 same-length-3 c = search needs
 
--- src/lib.rt:91:1
 returns : tie.Need-returns
 unfolding reportOf
 returns c =

@@ -14,61 +14,48 @@ use Rattle.report.proofs.write_report.Lts as lts
 use Rattle.report.proofs.memory_length.Reads as memory-length-reads
 use Rattle.report.proofs.whole.Reads as whole-reads
 
--- src/lib.rt:105:9
 returns : tie.Need-returns
 returns c = let a = c .before .before .before .before .before .args in
     gives-unchanged _ _ _ _ _ (call-short (now (a .image)) (a .n) (now (a .list)) (a .k) (now (a .track)) (now (a .out)) (c .if1 .taken))
 
--- src/lib.rt:108:9
 returns-2 : tie.Need-returns-2
 returns-2 c = let a = c .before .before .before .before .before .before .args in
     gives-unchanged _ _ _ _ _ (call-track (now (a .image)) (a .n) (now (a .list)) (a .k) (now (a .track)) (now (a .out)) (c .before .if1 .left) (c .if2 .taken))
 
--- src/lib.rt:111:9
 returns-3 : tie.Need-returns-3
 returns-3 c = let a = c .before .before .before .before .before .before .before .args in
     gives-unchanged _ _ _ _ _ (call-image (now (a .image)) (a .n) (now (a .list)) (a .k) (now (a .track)) (now (a .out)) (c .before .before .if1 .left) (c .before .if2 .left) (c .if3 .taken))
 
--- src/lib.rt:114:9
 returns-4 : tie.Need-returns-4
 returns-4 c = let a = c .before .before .before .before .before .before .before .before .args in
     gives-unchanged _ _ _ _ _ (call-list (now (a .image)) (a .n) (now (a .list)) (a .k) (now (a .track)) (now (a .out)) (c .before .before .before .if1 .left) (c .before .before .if2 .left) (c .before .if3 .left) (c .if4 .taken))
 
--- src/lib.rt:116:9
 memory-length-requires : tie.Need-memory-length-requires
 memory-length-requires c κs = search needs
 
--- src/lib.rt:117:24
 slice-relend-prefix-whole : tie.Need-slice-relend-prefix-whole
 slice-relend-prefix-whole c = let a = c .before .before .before .before .before .before .before .before .before .args in
     omega (arith, c .memory-length .ensures, memory-fits (a .n) (length (now (a .image))) (c .before .before .if3 .left))
 
--- src/lib.rt:117:24
 slice-aggregate-whole : tie.Need-slice-aggregate-whole
 slice-aggregate-whole c = let a = c .before .before .before .before .before .before .before .before .before .before .args in
     sym (length-take-le (c .before .memory-length .result) (now (a .image)) (omega (arith, c .before .memory-length .ensures, memory-fits (a .n) (length (now (a .image))) (c .before .before .before .if3 .left))))
 
--- src/lib.rt:117:51
 slice-aggregate-whole-2 : tie.Need-slice-aggregate-whole-2
 slice-aggregate-whole-2 c = let a = c .before .before .before .before .before .before .before .before .before .before .before .before .args in sym (length-take-le (a .k) (now (a .list)) (c .before .before .before .before .if4 .left))
 
--- src/lib.rt:117:18
 whole-requires : tie.Need-whole-requires
 whole-requires c κs = search needs
 
--- src/lib.rt:101:1
 same-length : tie.Need-same-length
 same-length c = search needs
 
--- src/lib.rt:101:1
 same-length-2 : tie.Need-same-length-2
 same-length-2 c = search needs
 
--- src/lib.rt:101:1
 same-length-3 : tie.Need-same-length-3
 same-length-3 c = search needs
 
--- src/lib.rt:101:1
 returns-5 : tie.Need-returns-5
 returns-5 c =
     let w = c .before .before .before .before .before .before in

@@ -44,35 +44,27 @@ start-4 c = start-3 (c .before .before .before .before .before)
 wrote-4 : (c : tie.After-put2) → Written (now (start-4 c .args .out)) (start-4 c .args .at) ((((hexOf (start-4 c .args .line)) ++ (44 ∷ 45 ∷ 44 ∷ 114 ∷ 101 ∷ 102 ∷ 117 ∷ 115 ∷ 101 ∷ 100 ∷ 44 ∷ [])) ++ (hexOf (start-4 c .args .n))) ++ (newline ∷ [])) (c .put2 .last .0) (c .put2 .result) 28
 wrote-4 c = put-more 1 (newline ∷ []) 1 (wrote-3 (c .before .before .before .before .before)) (omega arith) (omega arith) (omega (arith, start-4 c .pre)) (c .put2 .ensures)
 
--- src/lib.rt:69:9
 put-hex-requires : tie.Need-put-hex-requires
 put-hex-requires c κs = search needs
 
--- src/lib.rt:70:33
 slice-aggregate-put : tie.Need-slice-aggregate-put
 slice-aggregate-put c = search needs
 
--- src/lib.rt:70:9
 put-requires : tie.Need-put-requires
 put-requires c κs = search needs
 
--- src/lib.rt:71:9
 put-hex-requires-2 : tie.Need-put-hex-requires-2
 put-hex-requires-2 c κs = search needs
 
--- src/lib.rt:72:24
 slice-aggregate-put-2 : tie.Need-slice-aggregate-put-2
 slice-aggregate-put-2 c = search needs
 
--- src/lib.rt:72:5
 put-requires-2 : tie.Need-put-requires-2
 put-requires-2 c κs = search needs
 
--- src/lib.rt:65:1
 same-length : tie.Need-same-length
 same-length c = wrote-4 (c .before .before) .long
 
--- src/lib.rt:65:1
 returns : tie.Need-returns
 unfolding rowText
 returns c =

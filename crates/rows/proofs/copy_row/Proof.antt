@@ -73,65 +73,50 @@ start-8 c = start-7 (c .before .before .before .before .before)
 wrote-8 : (c : tie.After-put4) → Written (now (start-8 c .args .out)) (start-8 c .args .at) ((((((((hexOf (start-8 c .args .line)) ++ (comma ∷ [])) ++ (name (start-8 c .args .k))) ++ (comma ∷ [])) ++ (word (shown (start-8 c .args .a)))) ++ (comma ∷ [])) ++ (hexOf (value (shown (start-8 c .args .a))))) ++ (newline ∷ [])) (c .put4 .last .0) (c .put4 .result) 34
 wrote-8 c = put-more 1 (newline ∷ []) 1 (wrote-7 (c .before .before .before .before .before)) (omega arith) (omega arith) (omega (arith, start-8 c .pre)) (c .put4 .ensures)
 
--- src/lib.rt:45:9
 put-hex-requires : tie.Need-put-hex-requires
 put-hex-requires c κs = search needs
 
--- src/lib.rt:46:33
 slice-aggregate-put : tie.Need-slice-aggregate-put
 slice-aggregate-put c = search needs
 
--- src/lib.rt:46:9
 put-requires : tie.Need-put-requires
 put-requires c κs = search needs
 
--- src/lib.rt:47:9
 put-name-requires : tie.Need-put-name-requires
 put-name-requires c κs = search needs
 
--- src/lib.rt:48:33
 slice-aggregate-put-2 : tie.Need-slice-aggregate-put-2
 slice-aggregate-put-2 c = search needs
 
--- src/lib.rt:48:9
 put-requires-2 : tie.Need-put-requires-2
 put-requires-2 c κs = search needs
 
--- src/lib.rt:49:9
 put-word-requires : tie.Need-put-word-requires
 put-word-requires c κs =
     let w = wrote-4 (c .before .before .before) in
     omega (arith, w .place, w .most, w .long, start-4 (c .before .before .before) .pre)
 
--- src/lib.rt:50:33
 slice-aggregate-put-3 : tie.Need-slice-aggregate-put-3
 slice-aggregate-put-3 c = search needs
 
--- src/lib.rt:50:9
 put-requires-3 : tie.Need-put-requires-3
 put-requires-3 c κs = search needs
 
--- src/lib.rt:51:37
 value-requires : tie.Need-value-requires
 value-requires c κs = search needs
 
--- src/lib.rt:51:9
 put-hex-requires-2 : tie.Need-put-hex-requires-2
 put-hex-requires-2 c κs = search needs
 
--- src/lib.rt:52:24
 slice-aggregate-put-4 : tie.Need-slice-aggregate-put-4
 slice-aggregate-put-4 c = search needs
 
--- src/lib.rt:52:5
 put-requires-4 : tie.Need-put-requires-4
 put-requires-4 c κs = search needs
 
--- src/lib.rt:41:1
 same-length : tie.Need-same-length
 same-length c = wrote-8 (c .before .before) .long
 
--- src/lib.rt:41:1
 returns : tie.Need-returns
 unfolding rowText
 returns c =

@@ -37,31 +37,24 @@ start-3 c = start-2 (c .before .before .before .before .before)
 wrote-3 : (c : tie.After-put2) → Written (now (start-3 c .args .out)) (start-3 c .args .at) ((((48 ∷ 44 ∷ 115 ∷ 116 ∷ 97 ∷ 114 ∷ 116 ∷ 44 ∷ 114 ∷ 101 ∷ 102 ∷ 117 ∷ 115 ∷ 101 ∷ 100 ∷ 44 ∷ [])) ++ (hexOf (start-3 c .args .n))) ++ (newline ∷ [])) (c .put2 .last .0) (c .put2 .result) 25
 wrote-3 c = put-more 1 (newline ∷ []) 1 (wrote-2 (c .before .before .before .before .before)) (omega arith) (omega arith) (omega (arith, start-3 c .pre)) (c .put2 .ensures)
 
--- src/lib.rt:89:33
 slice-aggregate-put : tie.Need-slice-aggregate-put
 slice-aggregate-put c = search needs
 
--- src/lib.rt:89:9
 put-requires : tie.Need-put-requires
 put-requires c κs = search needs
 
--- src/lib.rt:90:9
 put-hex-requires : tie.Need-put-hex-requires
 put-hex-requires c κs = search needs
 
--- src/lib.rt:91:24
 slice-aggregate-put-2 : tie.Need-slice-aggregate-put-2
 slice-aggregate-put-2 c = search needs
 
--- src/lib.rt:91:5
 put-requires-2 : tie.Need-put-requires-2
 put-requires-2 c κs = search needs
 
--- src/lib.rt:85:1
 same-length : tie.Need-same-length
 same-length c = wrote-3 (c .before .before) .long
 
--- src/lib.rt:85:1
 returns : tie.Need-returns
 returns c =
     let w = wrote-3 (c .before .before) in

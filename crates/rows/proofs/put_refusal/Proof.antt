@@ -11,29 +11,23 @@ use Rattle.rows.proofs.put_refusal.Lts as lts
 use Rattle.rows.proofs.copy_refusal.Reads as copy-refusal-reads
 use Rattle.text.proofs.has_room.Reads as has-room-reads
 
--- src/lib.rt:79:8
 has-room-requires : tie.Need-has-room-requires
 has-room-requires c κs = search needs
 
--- src/lib.rt:80:9
 copy-refusal-requires : tie.Need-copy-refusal-requires
 copy-refusal-requires c κs = let i = c .before in let h = i .before in let a = h .before .before .before .args in
     room-left 34 (now (a .out)) (a .at) (rowText (a .line) noName (refused (a .n))) (sym (h .has-room .ensures) ∙ i .if1 .taken)
 
--- src/lib.rt:80:9
 same-length : tie.Need-same-length
 same-length c = search needs
 
--- src/lib.rt:80:9
 returns : tie.Need-returns
 returns c = let k = c .before .before in let i = k .before .before in let h = i .before in let a = h .before .before .before .args in
     wrote-yes 34 (now (a .out)) (a .at) (rowText (a .line) noName (refused (a .n))) _ _ (sym (h .has-room .ensures) ∙ i .if1 .taken) (k .copy-refusal .ensures)
 
--- src/lib.rt:76:1
 same-length-2 : tie.Need-same-length-2
 same-length-2 c = search needs
 
--- src/lib.rt:76:1
 returns-2 : tie.Need-returns-2
 returns-2 c = let h = c .before in let a = h .before .before .before .args in
     wrote-no 34 (now (a .out)) (a .at) (rowText (a .line) noName (refused (a .n))) (sym (h .has-room .ensures) ∙ c .if1 .left)

@@ -12,29 +12,23 @@ use Rattle.rows.proofs.put_row.Lts as lts
 use Rattle.rows.proofs.copy_row.Reads as copy-row-reads
 use Rattle.text.proofs.has_room.Reads as has-room-reads
 
--- src/lib.rt:59:8
 has-room-requires : tie.Need-has-room-requires
 has-room-requires c κs = search needs
 
--- src/lib.rt:60:9
 copy-row-requires : tie.Need-copy-row-requires
 copy-row-requires c κs = let i = c .before in let h = i .before in let a = h .before .before .before .args in
     room-left 34 (now (a .out)) (a .at) (rowText (a .line) (name (a .k)) (shown (a .a))) (sym (h .has-room .ensures) ∙ i .if1 .taken)
 
--- src/lib.rt:60:9
 same-length : tie.Need-same-length
 same-length c = search needs
 
--- src/lib.rt:60:9
 returns : tie.Need-returns
 returns c = let k = c .before .before in let i = k .before .before in let h = i .before in let a = h .before .before .before .args in
     wrote-yes 34 (now (a .out)) (a .at) (rowText (a .line) (name (a .k)) (shown (a .a))) _ _ (sym (h .has-room .ensures) ∙ i .if1 .taken) (k .copy-row .ensures)
 
--- src/lib.rt:56:1
 same-length-2 : tie.Need-same-length-2
 same-length-2 c = search needs
 
--- src/lib.rt:56:1
 returns-2 : tie.Need-returns-2
 returns-2 c = let h = c .before in let a = h .before .before .before .args in
     wrote-no 34 (now (a .out)) (a .at) (rowText (a .line) (name (a .k)) (shown (a .a))) (sym (h .has-room .ensures) ∙ c .if1 .left)

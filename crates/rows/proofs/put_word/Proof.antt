@@ -12,65 +12,50 @@ use Rattle.rows.proofs.put_word.Reads as reads
 use Rattle.rows.proofs.put_word.Lts as lts
 use Rattle.text.proofs.put.Reads as put-reads
 
--- src/lib.rt:24:38
 enum-told : tie.Need-enum-told
 enum-told c = search needs
 
--- src/lib.rt:24:47
 slice-aggregate-put : tie.Need-slice-aggregate-put
 slice-aggregate-put c = search needs
 
--- src/lib.rt:24:28
 put-requires : tie.Need-put-requires
 put-requires c κs = search needs
 
--- src/lib.rt:25:41
 enum-told-2 : tie.Need-enum-told-2
 enum-told-2 c = search needs
 
--- src/lib.rt:25:50
 slice-aggregate-put-2 : tie.Need-slice-aggregate-put-2
 slice-aggregate-put-2 c = search needs
 
--- src/lib.rt:25:31
 put-requires-2 : tie.Need-put-requires-2
 put-requires-2 c κs = search needs
 
--- src/lib.rt:26:41
 enum-told-3 : tie.Need-enum-told-3
 enum-told-3 c = search needs
 
--- src/lib.rt:26:50
 slice-aggregate-put-3 : tie.Need-slice-aggregate-put-3
 slice-aggregate-put-3 c = search needs
 
--- src/lib.rt:26:31
 put-requires-3 : tie.Need-put-requires-3
 put-requires-3 c κs = search needs
 
--- src/lib.rt:19:1
 same-length : tie.Need-same-length
 same-length c = search needs
 
--- src/lib.rt:19:1
 returns : tie.Need-returns
 returns c = let k = c .before .before in let e = k .before .before .before in let a = e .before .before .before .args in
     rw (e .enum-told .given .1) (wrote-fits (length (word (ok 0))) (now (a .out)) (a .at) (word (ok 0)) _ _ (omega (arith, e .before .before .before .pre)) (k .put .ensures))
 
--- src/lib.rt:19:1
 same-length-2 : tie.Need-same-length-2
 same-length-2 c = search needs
 
--- src/lib.rt:19:1
 returns-2 : tie.Need-returns-2
 returns-2 c = let k = c .before .before in let e = k .before .before .before in let a = e .before .before .before .args in
     rw (e .enum-told2 .given .1) (wrote-fits (length (word (fault 0))) (now (a .out)) (a .at) (word (fault 0)) _ _ (omega (arith, e .before .before .before .pre)) (k .put2 .ensures))
 
--- src/lib.rt:19:1
 same-length-3 : tie.Need-same-length-3
 same-length-3 c = search needs
 
--- src/lib.rt:19:1
 returns-3 : tie.Need-returns-3
 returns-3 c = let k = c .before .before in let e = k .before .before .before in let a = e .before .before .before .args in
     rw (e .enum-told3 .given .1) (wrote-fits (length (word (refused 0))) (now (a .out)) (a .at) (word (refused 0)) _ _ (omega (arith, e .before .before .before .pre)) (k .put3 .ensures))

@@ -21,28 +21,22 @@ Inv-loop out at n buf₀ i₀ v₀ buf i v = (1 ≤ i) × (i ≤ 8) × (length b
 abbrev μ-loop : tie.MeasureT-loop
 μ-loop out at n buf₀ i₀ v₀ buf i v = v
 
--- src/lib.rt:44:5
 loop-holds : tie.Need-loop-holds Inv-loop μ-loop
 unfolding hexOf
 loop-holds c = (omega arith, omega arith, refl, c .before .fits .n .fits, refl)
 
--- src/lib.rt:45:9
 sub-i : tie.Need-sub-i Inv-loop μ-loop
 sub-i c = omega arith
 
--- src/lib.rt:46:18
 glyph-requires : tie.Need-glyph-requires Inv-loop μ-loop
 glyph-requires c κs = omega arith
 
--- src/lib.rt:46:9
 array-write-buf : tie.Need-array-write-buf Inv-loop μ-loop
 array-write-buf c = omega arith
 
--- src/lib.rt:44:5
 loop-less : tie.Need-loop-less Inv-loop μ-loop
 loop-less c = omega arith
 
--- src/lib.rt:44:5
 loop-again : tie.Need-loop-again Inv-loop μ-loop
 loop-again c =
     let at-loop = c .before .before in
@@ -58,23 +52,18 @@ loop-again c =
       at-loop .loop .inv .4 ∙ rw (c .glyph .ensures) (spell-turn i (i - 1) v buf e h (omega arith)),
     )
 
--- src/lib.rt:49:5
 sub-i-2 : tie.Need-sub-i-2 Inv-loop μ-loop
 sub-i-2 c = omega arith
 
--- src/lib.rt:50:14
 glyph-requires-2 : tie.Need-glyph-requires-2 Inv-loop μ-loop
 glyph-requires-2 c κs = omega arith
 
--- src/lib.rt:50:5
 array-write-buf-2 : tie.Need-array-write-buf-2 Inv-loop μ-loop
 array-write-buf-2 c = omega arith
 
--- src/lib.rt:51:18
 sub-copy : tie.Need-sub-copy Inv-loop μ-loop
 sub-copy c = omega arith
 
--- src/lib.rt:51:18
 part-copy-start : tie.Need-part-copy-start Inv-loop μ-loop
 part-copy-start c = omega arith
 
@@ -85,22 +74,18 @@ written c =
     let i = at-loop .loop .i in
     spelled-part (at-loop .before .before .args .n) i (at-loop .loop .v) (c .before .before .before .glyph2 .result) (at-loop .loop .buf) (i - 1) (omega arith) (omega arith) (at-loop .loop .inv .2) (omega arith) (c .before .before .before .glyph2 .ensures) (at-loop .loop .inv .4)
 
--- src/lib.rt:51:18
 part-copy-end : tie.Need-part-copy-end Inv-loop μ-loop
 part-copy-end c =
     let at-loop = c .before .before .before .before in
     let h : 8 ≤ length (set (at-loop .loop .buf) (at-loop .loop .i - 1) (c .before .before .glyph2 .result)) = simp length-set (omega arith) in
     h
 
--- src/lib.rt:51:5
 copy-requires : tie.Need-copy-requires Inv-loop μ-loop
 copy-requires c κs = rw (written c) (omega (arith, hex-length (c .before .before .before .before .before .before .before .args .n)))
 
--- src/lib.rt:37:1
 same-length : tie.Need-same-length Inv-loop μ-loop
 same-length c = search needs
 
--- src/lib.rt:37:1
 returns : tie.Need-returns Inv-loop μ-loop
 returns c =
     let w = written (c .before .before .before) in

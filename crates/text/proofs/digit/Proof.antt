@@ -9,33 +9,26 @@ use Rattle.text.proofs.digit.Reads as reads
 use Rattle.text.proofs.digit.Lts as lts
 use Rattle.text.proofs.between.Reads as between-reads
 
--- src/lib.rt:84:8
 between-requires : tie.Need-between-requires
 between-requires c κs = search needs
 
--- src/lib.rt:85:16
 sub-result : tie.Need-sub-result
 sub-result c = between-low 48 57 (c .before .before .args .x) (sym (c .before .between .ensures) ∙ c .if1 .taken)
 
--- src/lib.rt:85:9
 returns : tie.Need-returns
 unfolding digit
 returns c = simp (sym (c .before .between .ensures) ∙ c .if1 .taken)
 
--- src/lib.rt:87:8
 between-requires-2 : tie.Need-between-requires-2
 between-requires-2 c κs = search needs
 
--- src/lib.rt:88:16
 sub-result-2 : tie.Need-sub-result-2
 sub-result-2 c = omega (arith, between-low 97 102 (c .before .before .before .before .args .x) (sym (c .before .between2 .ensures) ∙ c .if2 .taken))
 
--- src/lib.rt:88:9
 returns-2 : tie.Need-returns-2
 unfolding digit
 returns-2 c = let i = c .before .before in simp (sym (i .before .between .ensures) ∙ i .if1 .left, sym (c .before .between2 .ensures) ∙ c .if2 .taken)
 
--- src/lib.rt:81:1
 returns-3 : tie.Need-returns-3
 unfolding digit
 returns-3 c = let i = c .before .before in simp (sym (i .before .between .ensures) ∙ i .if1 .left, sym (c .before .between2 .ensures) ∙ c .if2 .left)

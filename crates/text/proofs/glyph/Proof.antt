@@ -6,28 +6,22 @@ use Rattle.text.proofs.glyph.Tie as tie
 use Rattle.text.proofs.glyph.Reads as reads
 use Rattle.text.proofs.glyph.Lts as lts
 
--- src/lib.rt:33:22
 cast-result : tie.Need-cast-result
 cast-result c = search needs
 
--- src/lib.rt:33:17
 add-result : tie.Need-add-result
 add-result c = search needs
 
--- src/lib.rt:33:44
 cast-result-2 : tie.Need-cast-result-2
 cast-result-2 c = search needs
 
--- src/lib.rt:33:39
 add-result-2 : tie.Need-add-result-2
 add-result-2 c = search needs
 
--- src/lib.rt:29:1
 returns : tie.Need-returns
 unfolding glyph
 returns c = simp (lt-ltb _ _ (c .if1 .taken))
 
--- src/lib.rt:29:1
 returns-2 : tie.Need-returns-2
 unfolding glyph
 returns-2 c = simp (le-ltb _ _ (c .if1 .left))

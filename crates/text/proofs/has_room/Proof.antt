@@ -12,16 +12,13 @@ use Rattle.text.proofs.has_room.Tie as tie
 use Rattle.text.proofs.has_room.Reads as reads
 use Rattle.text.proofs.has_room.Lts as lts
 
--- src/lib.rt:126:9
 returns : tie.Need-returns
 unfolding hasRoom
 returns c = let a = c .before .args in sym (lt-leb _ (length (now (a .out))) (omega arith))
 
--- src/lib.rt:128:13
 sub-result : tie.Need-sub-result
 sub-result c = search needs
 
--- src/lib.rt:122:1
 returns-2 : tie.Need-returns-2
 unfolding hasRoom
 returns-2 c = let a = c .before .args in room-test (a .at) (a .room) (length (now (a .out))) (omega arith)

@@ -10,29 +10,23 @@ use Rattle.text.proofs.put.Lts as lts
 use Rattle.text.proofs.copy.Reads as copy-reads
 use Rattle.text.proofs.has_room.Reads as has-room-reads
 
--- src/lib.rt:148:8
 has-room-requires : tie.Need-has-room-requires
 has-room-requires c κs = search needs
 
--- src/lib.rt:149:9
 copy-requires : tie.Need-copy-requires
 copy-requires c κs = let i = c .before in let h = i .before in let a = h .before .before .before .before .args in
     room-left (length (now (a .text))) (now (a .out)) (a .at) (now (a .text)) (sym (h .has-room .ensures) ∙ i .if1 .taken)
 
--- src/lib.rt:149:9
 same-length : tie.Need-same-length
 same-length c = search needs
 
--- src/lib.rt:149:9
 returns : tie.Need-returns
 returns c = let k = c .before .before in let i = k .before .before in let h = i .before in let a = h .before .before .before .before .args in
     wrote-yes (length (now (a .text))) (now (a .out)) (a .at) (now (a .text)) _ _ (sym (h .has-room .ensures) ∙ i .if1 .taken) (k .copy .ensures)
 
--- src/lib.rt:145:1
 same-length-2 : tie.Need-same-length-2
 same-length-2 c = search needs
 
--- src/lib.rt:145:1
 returns-2 : tie.Need-returns-2
 returns-2 c = let h = c .before in let a = h .before .before .before .before .args in
     wrote-no (length (now (a .text))) (now (a .out)) (a .at) (now (a .text)) (sym (h .has-room .ensures) ∙ c .if1 .left)

@@ -11,29 +11,23 @@ use Rattle.text.proofs.put_hex.Lts as lts
 use Rattle.text.proofs.copy_hex.Reads as copy-hex-reads
 use Rattle.text.proofs.has_room.Reads as has-room-reads
 
--- src/lib.rt:184:8
 has-room-requires : tie.Need-has-room-requires
 has-room-requires c κs = search needs
 
--- src/lib.rt:185:9
 copy-hex-requires : tie.Need-copy-hex-requires
 copy-hex-requires c κs = let i = c .before in let h = i .before in let a = h .before .before .before .args in
     room-left 8 (now (a .out)) (a .at) (hexOf (a .n)) (sym (h .has-room .ensures) ∙ i .if1 .taken)
 
--- src/lib.rt:185:9
 same-length : tie.Need-same-length
 same-length c = search needs
 
--- src/lib.rt:185:9
 returns : tie.Need-returns
 returns c = let k = c .before .before in let i = k .before .before in let h = i .before in let a = h .before .before .before .args in
     wrote-yes 8 (now (a .out)) (a .at) (hexOf (a .n)) _ _ (sym (h .has-room .ensures) ∙ i .if1 .taken) (k .copy-hex .ensures)
 
--- src/lib.rt:181:1
 same-length-2 : tie.Need-same-length-2
 same-length-2 c = search needs
 
--- src/lib.rt:181:1
 returns-2 : tie.Need-returns-2
 returns-2 c = let h = c .before in let a = h .before .before .before .args in
     wrote-no 8 (now (a .out)) (a .at) (hexOf (a .n)) (sym (h .has-room .ensures) ∙ c .if1 .left)

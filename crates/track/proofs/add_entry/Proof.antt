@@ -8,27 +8,22 @@ use Rattle.track.proofs.add_entry.Reads as reads
 use Rattle.track.proofs.add_entry.Lts as lts
 use Rattle.track.proofs.is_entry.Reads as is-entry-reads
 
--- src/lib.rt:20:9
 returns : tie.Need-returns
 unfolding addEntry
 returns c = simp (eq-eqb _ _ (c .if1 .taken))
 
--- src/lib.rt:23:9
 returns-2 : tie.Need-returns-2
 unfolding addEntry
 returns-2 c = simp (ne-eqb _ _ (c .before .if1 .left), eq-eqb _ _ (c .if2 .taken))
 
--- src/lib.rt:25:8
 is-entry-requires : tie.Need-is-entry-requires
 is-entry-requires c κs = search needs
 
--- src/lib.rt:26:9
 returns-3 : tie.Need-returns-3
 unfolding addEntry
 returns-3 c = let e = c .before .before in
     simp (ne-eqb _ _ (e .before .if1 .left), ne-eqb _ _ (e .if2 .left), sym (c .before .is-entry .ensures) ∙ c .if3 .taken)
 
--- src/lib.rt:16:1
 returns-4 : tie.Need-returns-4
 unfolding addEntry
 returns-4 c = let e = c .before .before in

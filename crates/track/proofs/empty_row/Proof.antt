@@ -18,36 +18,28 @@ Inv-loop row₀ page₀ row page = (page ≤ length row₀) × ((row ≡ mapFirs
 abbrev μ-loop : tie.MeasureT-loop
 μ-loop row₀ page₀ row page = length row₀ - page
 
--- src/lib.rt:58:5
 loop-holds : tie.Need-loop-holds Inv-loop μ-loop
 loop-holds c = (zero-le, (refl, refl))
 
--- src/lib.rt:59:9
 mul-row : tie.Need-mul-row Inv-loop μ-loop
 mul-row c = omega arith
 
--- src/lib.rt:59:9
 slice-write-row : tie.Need-slice-write-row Inv-loop μ-loop
 slice-write-row c = omega arith
 
--- src/lib.rt:60:9
 add-p : tie.Need-add-p Inv-loop μ-loop
 add-p c = omega arith
 
--- src/lib.rt:58:5
 loop-less : tie.Need-loop-less Inv-loop μ-loop
 loop-less c = omega arith
 
--- src/lib.rt:58:5
 loop-again : tie.Need-loop-again Inv-loop μ-loop
 loop-again c = let l = c .before in
     (omega arith, (turn (λ (i w : ℕ). 0) _ _ _ _ (l .loop .inv .1 .0) (omega arith) refl, simp length-set (l .loop .inv .1 .1)))
 
--- src/lib.rt:54:1
 same-length : tie.Need-same-length Inv-loop μ-loop
 same-length c = c .before .loop .inv .1 .1
 
--- src/lib.rt:54:1
 returns : tie.Need-returns Inv-loop μ-loop
 returns c = let l = c .before in
     all-turns (λ (i w : ℕ). 0) (l .before .args .row .now) (l .loop .row) (l .loop .p) (l .loop .inv .1 .0) (omega arith)

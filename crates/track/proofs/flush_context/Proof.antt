@@ -11,45 +11,35 @@ use Rattle.track.proofs.flush_context.Reads as reads
 use Rattle.track.proofs.flush_context.Lts as lts
 use Rattle.track.proofs.empty_row.Reads as empty-row-reads
 
--- src/lib.rt:87:21
 mul-first : tie.Need-mul-first
 mul-first c = search needs
 
--- src/lib.rt:88:19
 add-past : tie.Need-add-past
 add-past c = search needs
 
--- src/lib.rt:89:19
 mul-empty-row : tie.Need-mul-empty-row
 mul-empty-row c = search needs
 
--- src/lib.rt:89:19
 sub-empty-row : tie.Need-sub-empty-row
 sub-empty-row c = search needs
 
--- src/lib.rt:89:19
 part-empty-row-start : tie.Need-part-empty-row-start
 part-empty-row-start c = search needs
 
--- src/lib.rt:89:19
 part-empty-row-end : tie.Need-part-empty-row-end
 part-empty-row-end c = search needs
 
--- src/lib.rt:89:9
 empty-row-requires : tie.Need-empty-row-requires
 empty-row-requires c κs = search needs
 
--- src/lib.rt:83:1
 same-length : tie.Need-same-length
 same-length c = search needs
 
--- src/lib.rt:83:1
 returns : tie.Need-returns
 unfolding flushContext
 returns c = let a = c .before .before .before .before .before .before .args in
     put-row emptyRow 1024 (a .context) _ (now (a .track)) _ (add-sub-cancel-left (a .context * 1024) 1024) (omega arith) (c .before .before .empty-row .ensures)
 
--- src/lib.rt:83:1
 returns-2 : tie.Need-returns-2
 unfolding flushContext
 returns-2 c = let a = c .before .before .args in

@@ -20,34 +20,27 @@ Inv-loop track₀ page rows c₀ track c = (c ≤ rows) × ((track ≡ eachRow 1
 abbrev μ-loop : tie.MeasureT-loop
 μ-loop track₀ page rows c₀ track c = rows - c
 
--- src/lib.rt:122:5
 loop-holds : tie.Need-loop-holds Inv-loop μ-loop
 unfolding eachRow
 loop-holds c = (zero-le, (refl, refl))
 
--- src/lib.rt:123:9
 flush-page-in-requires : tie.Need-flush-page-in-requires Inv-loop μ-loop
 flush-page-in-requires c κs = search needs
 
--- src/lib.rt:124:9
 add-c : tie.Need-add-c Inv-loop μ-loop
 add-c c = omega arith
 
--- src/lib.rt:122:5
 loop-less : tie.Need-loop-less Inv-loop μ-loop
 loop-less c = omega arith
 
--- src/lib.rt:122:5
 loop-again : tie.Need-loop-again Inv-loop μ-loop
 unfolding flushPageIn
 loop-again c = let l = c .before .before .before .before .before in let a = l .before .before .args in let e = c .before .before in
     (omega arith, (row-turn (emptyPage (a .page)) 1024 (l .loop .c) (now (a .track)) (l .loop .track) _ (l .loop .inv .1 .0) (e .flush-page-in .ensures), c .before .track .given ∙ l .loop .inv .1 .1))
 
--- src/lib.rt:117:1
 same-length : tie.Need-same-length Inv-loop μ-loop
 same-length c = c .before .loop .inv .1 .1
 
--- src/lib.rt:117:1
 returns : tie.Need-returns Inv-loop μ-loop
 unfolding flushPage
 returns c = let l = c .before in let a = l .before .before .args in

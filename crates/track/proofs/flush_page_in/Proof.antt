@@ -11,45 +11,35 @@ use Rattle.track.proofs.flush_page_in.Reads as reads
 use Rattle.track.proofs.flush_page_in.Lts as lts
 use Rattle.track.proofs.empty_page.Reads as empty-page-reads
 
--- src/lib.rt:98:21
 mul-from : tie.Need-mul-from
 mul-from c = search needs
 
--- src/lib.rt:99:19
 add-to : tie.Need-add-to
 add-to c = search needs
 
--- src/lib.rt:100:20
 mul-empty-page : tie.Need-mul-empty-page
 mul-empty-page c = search needs
 
--- src/lib.rt:100:20
 sub-empty-page : tie.Need-sub-empty-page
 sub-empty-page c = search needs
 
--- src/lib.rt:100:20
 part-empty-page-start : tie.Need-part-empty-page-start
 part-empty-page-start c = search needs
 
--- src/lib.rt:100:20
 part-empty-page-end : tie.Need-part-empty-page-end
 part-empty-page-end c = search needs
 
--- src/lib.rt:100:9
 empty-page-requires : tie.Need-empty-page-requires
 empty-page-requires c κs = search needs
 
--- src/lib.rt:94:1
 same-length : tie.Need-same-length
 same-length c = search needs
 
--- src/lib.rt:94:1
 returns : tie.Need-returns
 unfolding flushPageIn
 returns c = let a = c .before .before .before .before .before .before .args in
     put-row (emptyPage (a .page)) 1024 (a .context) _ (now (a .track)) _ (add-sub-cancel-left (a .context * 1024) 1024) (omega arith) (c .before .before .empty-page .ensures)
 
--- src/lib.rt:94:1
 returns-2 : tie.Need-returns-2
 unfolding flushPageIn
 returns-2 c = let a = c .before .before .args in

@@ -7,7 +7,6 @@ use Rattle.track.proofs.is_entry.Tie as tie
 use Rattle.track.proofs.is_entry.Reads as reads
 use Rattle.track.proofs.is_entry.Lts as lts
 
--- src/lib.rt:7:1
 returns : tie.Need-returns
 unfolding isEntry
 returns c = rw (lt-ltb (c .args .w) 4294967296 (omega arith))

@@ -10,35 +10,28 @@ use Rattle.track.proofs.is_stale.Reads as reads
 use Rattle.track.proofs.is_stale.Lts as lts
 use Rattle.walk.proofs.entry_word.Reads as entry-word-reads
 
--- src/lib.rt:101:9
 returns : tie.Need-returns
 returns c = empty-fresh (c .before .args .o) _ (c .if1 .taken)
 
--- src/lib.rt:104:25
 enum-known-o : tie.Need-enum-known-o
 enum-known-o c = search needs
 
--- src/lib.rt:105:17
 entry-word-requires : tie.Need-entry-word-requires
 entry-word-requires c κs = search needs
 
--- src/lib.rt:107:17
 returns-2 : tie.Need-returns-2
 unfolding staleWord
 returns-2 c = let k = c .before .before .before in
     sym (ap (staleWord _) (k .o .given .1) ∙ simp (ne-eqb _ _ (k .before .before .if1 .left), eq-eqb _ _ (c .if2 .taken ∙ c .before .entry-word .ensures)))
 
--- src/lib.rt:111:31
 enum-told : tie.Need-enum-told
 enum-told c = search needs
 
--- src/lib.rt:97:1
 returns-3 : tie.Need-returns-3
 unfolding staleWord
 returns-3 c = let k = c .before .before .before in
     sym (ap (staleWord _) (k .o .given .1) ∙ simp (ne-eqb _ _ (k .before .before .if1 .left), ne-eqb _ (entryWord _) (λ h. c .if2 .left (h ∙ sym (c .before .entry-word .ensures)))))
 
--- src/lib.rt:97:1
 returns-4 : tie.Need-returns-4
 unfolding staleWord
 returns-4 c = sym (ap (staleWord _) (c .enum-told .given .1) ∙ simp (ne-eqb _ _ (c .before .before .if1 .left)))

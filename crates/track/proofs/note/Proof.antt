@@ -11,45 +11,35 @@ use Rattle.track.proofs.note.Reads as reads
 use Rattle.track.proofs.note.Lts as lts
 use Rattle.track.proofs.note_row.Reads as note-row-reads
 
--- src/lib.rt:76:21
 mul-start : tie.Need-mul-start
 mul-start c = search needs
 
--- src/lib.rt:77:19
 add-end : tie.Need-add-end
 add-end c = search needs
 
--- src/lib.rt:78:27
 mul-note-row : tie.Need-mul-note-row
 mul-note-row c = search needs
 
--- src/lib.rt:78:27
 sub-note-row : tie.Need-sub-note-row
 sub-note-row c = search needs
 
--- src/lib.rt:78:27
 part-note-row-start : tie.Need-part-note-row-start
 part-note-row-start c = search needs
 
--- src/lib.rt:78:27
 part-note-row-end : tie.Need-part-note-row-end
 part-note-row-end c = search needs
 
--- src/lib.rt:78:9
 note-row-requires : tie.Need-note-row-requires
 note-row-requires c κs = search needs
 
--- src/lib.rt:72:1
 same-length : tie.Need-same-length
 same-length c = search needs
 
--- src/lib.rt:72:1
 returns : tie.Need-returns
 unfolding noteTrack
 returns c = let a = c .before .before .before .before .before .before .before .args in
     put-row (noteRow (now (a .m)) (a .root)) 1024 (a .context) _ (now (a .track)) _ (add-sub-cancel-left (a .context * 1024) 1024) (omega arith) (c .before .before .note-row .ensures)
 
--- src/lib.rt:72:1
 returns-2 : tie.Need-returns-2
 unfolding noteTrack
 returns-2 c = let a = c .before .before .before .args in

@@ -11,33 +11,26 @@ use Rattle.track.proofs.add_entry.Reads as add-entry-reads
 use Rattle.walk.proofs.entry_word.Reads as entry-word-reads
 use Rattle.walk.proofs.walk.Reads as walk-reads
 
--- src/lib.rt:35:11
 walk-requires : tie.Need-walk-requires
 walk-requires c κs = search needs
 
--- src/lib.rt:36:25
 enum-known-e : tie.Need-enum-known-e
 enum-known-e c = search needs
 
--- src/lib.rt:36:44
 entry-word-requires : tie.Need-entry-word-requires
 entry-word-requires c κs = search needs
 
--- src/lib.rt:36:31
 add-entry-requires : tie.Need-add-entry-requires
 add-entry-requires c κs = search needs
 
--- src/lib.rt:37:31
 enum-told : tie.Need-enum-told
 enum-told c = search needs
 
--- src/lib.rt:32:1
 returns : tie.Need-returns
 unfolding notePage
 returns c = let l = c .before .before .before .before .before in
     c .add-entry .ensures ∙ ap (addEntry (l .before .before .args .w)) (c .before .entry-word .ensures) ∙ via (addOutcome (l .before .before .args .w)) (l .walk .ensures) (c .before .before .before .e .given .1)
 
--- src/lib.rt:32:1
 returns-2 : tie.Need-returns-2
 unfolding notePage
 returns-2 c = let l = c .before .before in

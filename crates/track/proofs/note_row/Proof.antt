@@ -21,48 +21,37 @@ Inv-loop m root row₀ page₀ row page = (page ≤ length row₀) × ((row ≡ 
 abbrev μ-loop : tie.MeasureT-loop
 μ-loop m root row₀ page₀ row page = length row₀ - page
 
--- src/lib.rt:46:5
 loop-holds : tie.Need-loop-holds Inv-loop μ-loop
 loop-holds c = (zero-le, (refl, refl))
 
--- src/lib.rt:47:17
 mul-w : tie.Need-mul-w Inv-loop μ-loop
 mul-w c = omega arith
 
--- src/lib.rt:47:17
 slice-read-w : tie.Need-slice-read-w Inv-loop μ-loop
 slice-read-w c = omega arith
 
--- src/lib.rt:48:21
 note-page-requires : tie.Need-note-page-requires Inv-loop μ-loop
 note-page-requires c κs = search needs
 
--- src/lib.rt:48:9
 mul-row : tie.Need-mul-row Inv-loop μ-loop
 mul-row c = omega arith
 
--- src/lib.rt:48:9
 slice-write-row : tie.Need-slice-write-row Inv-loop μ-loop
 slice-write-row c = omega arith
 
--- src/lib.rt:49:9
 add-page : tie.Need-add-page Inv-loop μ-loop
 add-page c = omega arith
 
--- src/lib.rt:46:5
 loop-less : tie.Need-loop-less Inv-loop μ-loop
 loop-less c = omega arith
 
--- src/lib.rt:46:5
 loop-again : tie.Need-loop-again Inv-loop μ-loop
 loop-again c = let l = c .before .before .before in let a = l .before .before .before .args in
     (omega arith, (turn (notePage (now (a .m)) (a .root)) _ _ _ _ (l .loop .inv .1 .0) (omega arith) (c .note-page .ensures), simp length-set (l .loop .inv .1 .1)))
 
--- src/lib.rt:42:1
 same-length : tie.Need-same-length Inv-loop μ-loop
 same-length c = c .before .loop .inv .1 .1
 
--- src/lib.rt:42:1
 returns : tie.Need-returns Inv-loop μ-loop
 returns c = let l = c .before in let a = l .before .before .before .args in
     all-turns (notePage (now (a .m)) (a .root)) (now (a .row)) (l .loop .row) (l .loop .page) (l .loop .inv .1 .0) (omega arith)

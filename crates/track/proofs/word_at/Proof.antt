@@ -9,36 +9,28 @@ use Rattle.track.proofs.word_at.Tie as tie
 use Rattle.track.proofs.word_at.Reads as reads
 use Rattle.track.proofs.word_at.Lts as lts
 
--- src/lib.rt:132:17
 mul-start : tie.Need-mul-start
 mul-start c = search needs
 
--- src/lib.rt:134:19
 sub-if2 : tie.Need-sub-if2
 sub-if2 c = search needs
 
--- src/lib.rt:135:26
 add-result : tie.Need-add-result
 add-result c = search needs
 
--- src/lib.rt:135:20
 mul-result : tie.Need-mul-result
 mul-result c = search needs
 
--- src/lib.rt:135:20
 shared-slice-read-result : tie.Need-shared-slice-read-result
 shared-slice-read-result c = search needs
 
--- src/lib.rt:135:13
 returns : tie.Need-returns
 returns c = search needs
 
--- src/lib.rt:137:9
 returns-2 : tie.Need-returns-2
 returns-2 c = let a = c .before .before .args in
     sym (List·getD-eq-default (now (a .track)) 0 {n = a .context * 1024 + a .page} (omega arith))
 
--- src/lib.rt:129:1
 returns-3 : tie.Need-returns-3
 returns-3 c = let a = c .before .args in
     sym (List·getD-eq-default (now (a .track)) 0 {n = a .context * 1024 + a .page} (omega arith))

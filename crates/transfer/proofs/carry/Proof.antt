@@ -5,19 +5,15 @@ use Rattle.transfer.proofs.carry.Reads as reads
 use Rattle.transfer.proofs.carry.Lts as lts
 use Rattle.track.proofs.note.Reads as note-reads
 
--- src/lib.rt:29:26
 cast-note : tie.Need-cast-note
 cast-note c = search needs
 
--- src/lib.rt:29:5
 note-requires : tie.Need-note-requires
 note-requires c κs = search needs
 
--- src/lib.rt:26:1
 same-length : tie.Need-same-length
 same-length c = search needs
 
--- src/lib.rt:26:1
 returns : tie.Need-returns
 returns c = search needs
 

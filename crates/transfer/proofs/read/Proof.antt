@@ -17,19 +17,15 @@ use Rattle.transfer.proofs.read.Lts as lts
 use Rattle.access.proofs.access_at.Reads as access-at-reads
 use Rattle.transfer.proofs.read_from.Reads as read-from-reads
 
--- src/lib.rt:124:9
 access-at-requires : tie.Need-access-at-requires
 access-at-requires c κs = search needs
 
--- src/lib.rt:125:5
 read-from-requires : tie.Need-read-from-requires
 read-from-requires c κs = search needs
 
--- src/lib.rt:121:1
 same-length : tie.Need-same-length
 same-length c = search needs
 
--- src/lib.rt:121:1
 returns : tie.Need-returns
 unfolding readStep
 returns c = let k = c .before .before in let x = k .before .before in let a = x .before .before .before .before .args in

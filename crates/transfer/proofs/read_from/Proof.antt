@@ -15,53 +15,41 @@ use Rattle.transfer.proofs.carry.Reads as carry-reads
 use Rattle.transfer.proofs.value_of.Reads as value-of-reads
 use Rattle.memory.proofs.load.Reads as load-reads
 
--- src/lib.rt:98:61
 enum-told : tie.Need-enum-told
 enum-told c = search needs
 
--- src/lib.rt:99:23
 enum-known-x : tie.Need-enum-known-x
 enum-known-x c = search needs
 
--- src/lib.rt:99:29
 carry-requires : tie.Need-carry-requires
 carry-requires c κs = search needs
 
--- src/lib.rt:100:26
 enum-known-x-2 : tie.Need-enum-known-x-2
 enum-known-x-2 c = search needs
 
--- src/lib.rt:101:30
 load-requires : tie.Need-load-requires
 load-requires c κs = search needs
 
--- src/lib.rt:101:17
 value-of-requires : tie.Need-value-of-requires
 value-of-requires c κs = search needs
 
--- src/lib.rt:102:13
 carry-requires-2 : tie.Need-carry-requires-2
 carry-requires-2 c κs = search needs
 
--- src/lib.rt:94:1
 returns : tie.Need-returns
 returns c = let a = c .before .before .before .before .args in
     turned _ _ _ _ _ (sym (ap (λ (z : Access). readFrom z (a .size) (a .r) (now (a .m)) (now (a .t))) (c .enum-told .given .1)))
 
--- src/lib.rt:94:1
 same-length : tie.Need-same-length
 same-length c = search needs
 
--- src/lib.rt:94:1
 returns-2 : tie.Need-returns-2
 returns-2 c = let k = c .before .before in let x = k .before .before .before in let a = x .before .before .before .before .args in
     regive _ _ _ _ _ (sym (ap (λ (z : Access). readFrom z (a .size) (a .r) (now (a .m)) (now (a .t))) (x .x .given .1))) (k .carry .ensures)
 
--- src/lib.rt:94:1
 same-length-2 : tie.Need-same-length-2
 same-length-2 c = search needs
 
--- src/lib.rt:94:1
 returns-3 : tie.Need-returns-3
 returns-3 c = let k = c .before .before in let v = k .before .before in let l = v .before in let x = l .before .before in let a = x .before .before .before .before .args in
     regive _ _ _ _ _

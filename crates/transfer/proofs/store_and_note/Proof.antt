@@ -6,23 +6,18 @@ use Rattle.transfer.proofs.store_and_note.Lts as lts
 use Rattle.memory.proofs.store.Reads as store-reads
 use Rattle.track.proofs.note.Reads as note-reads
 
--- src/lib.rt:40:5
 store-requires : tie.Need-store-requires
 store-requires c κs = search needs
 
--- src/lib.rt:41:5
 note-requires : tie.Need-note-requires
 note-requires c κs = search needs
 
--- src/lib.rt:37:1
 same-length : tie.Need-same-length
 same-length c = search needs
 
--- src/lib.rt:37:1
 same-length-2 : tie.Need-same-length-2
 same-length-2 c = search needs
 
--- src/lib.rt:37:1
 returns : tie.Need-returns
 returns c = search needs
 

@@ -17,23 +17,18 @@ use Rattle.transfer.proofs.write.Lts as lts
 use Rattle.access.proofs.access_at.Reads as access-at-reads
 use Rattle.transfer.proofs.write_to.Reads as write-to-reads
 
--- src/lib.rt:131:9
 access-at-requires : tie.Need-access-at-requires
 access-at-requires c κs = search needs
 
--- src/lib.rt:132:5
 write-to-requires : tie.Need-write-to-requires
 write-to-requires c κs = search needs
 
--- src/lib.rt:128:1
 same-length : tie.Need-same-length
 same-length c = search needs
 
--- src/lib.rt:128:1
 same-length-2 : tie.Need-same-length-2
 same-length-2 c = search needs
 
--- src/lib.rt:128:1
 returns : tie.Need-returns
 unfolding writeStep
 returns c = let k = c .before .before .before .before in let x = k .before .before .before in let a = x .before .before .before .before .before .args in

@@ -14,53 +14,41 @@ use Rattle.transfer.proofs.write_to.Lts as lts
 use Rattle.transfer.proofs.carry.Reads as carry-reads
 use Rattle.transfer.proofs.store_and_note.Reads as store-and-note-reads
 
--- src/lib.rt:67:37
 enum-told : tie.Need-enum-told
 enum-told c = search needs
 
--- src/lib.rt:70:23
 enum-known-x : tie.Need-enum-known-x
 enum-known-x c = search needs
 
--- src/lib.rt:70:31
 carry-requires : tie.Need-carry-requires
 carry-requires c κs = search needs
 
--- src/lib.rt:71:26
 enum-known-x-2 : tie.Need-enum-known-x-2
 enum-known-x-2 c = search needs
 
--- src/lib.rt:72:13
 store-and-note-requires : tie.Need-store-and-note-requires
 store-and-note-requires c κs = search needs
 
--- src/lib.rt:62:1
 returns : tie.Need-returns
 returns c = let a = c .before .before .before .before .args in
     turned _ _ _ _ _ (sym (ap (λ (z : Access). writeTo z (a .size) (a .v) (a .r) (now (a .m)) (now (a .t))) (c .enum-told .given .1)))
 
--- src/lib.rt:62:1
 same-length : tie.Need-same-length
 same-length c = search needs
 
--- src/lib.rt:62:1
 same-length-2 : tie.Need-same-length-2
 same-length-2 c = search needs
 
--- src/lib.rt:62:1
 returns-2 : tie.Need-returns-2
 returns-2 c = let k = c .before .before in let x = k .before .before .before .before in let a = x .before .before .before .before .args in
     regive _ _ _ _ _ (sym (ap (λ (z : Access). writeTo z (a .size) (a .v) (a .r) (now (a .m)) (now (a .t))) (x .x .given .1))) (k .carry .ensures)
 
--- src/lib.rt:62:1
 same-length-3 : tie.Need-same-length-3
 same-length-3 c = search needs
 
--- src/lib.rt:62:1
 same-length-4 : tie.Need-same-length-4
 same-length-4 c = search needs
 
--- src/lib.rt:62:1
 returns-3 : tie.Need-returns-3
 returns-3 c = let k = c .before .before .before .before in let x = k .before .before .before .before in let a = x .before .before .before .before .args in
     regive _ _ _ _ _

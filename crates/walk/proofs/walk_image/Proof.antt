@@ -11,41 +11,33 @@ use Rattle.walk.proofs.outcome_number.Reads as outcome-number-reads
 use Rattle.limits.proofs.root_fits.Reads as root-fits-reads
 use Rattle.walk.proofs.walk.Reads as walk-reads
 
--- src/lib.rt:169:8
 memory-fits-requires : tie.Need-memory-fits-requires
 memory-fits-requires c κs = search needs
 
--- src/lib.rt:170:12
 root-fits-requires : tie.Need-root-fits-requires
 root-fits-requires c κs = search needs
 
--- src/lib.rt:172:39
 walk-requires : tie.Need-walk-requires
 walk-requires c κs = search needs
 
--- src/lib.rt:172:17
 outcome-number-requires : tie.Need-outcome-number-requires
 outcome-number-requires c κs = search needs
 
--- src/lib.rt:172:17
 returns : tie.Need-returns
 unfolding walkAnswer
 returns c = let t3 = c .before .before in let t2 = t3 .before in let t1 = t2 .before .before in
     simp (sym (t1 .before .memory-fits .ensures) ∙ t1 .if1 .taken, sym (t2 .before .root-fits .ensures) ∙ t2 .if2 .taken, lt-ltb _ _ (t3 .if3 .taken)) (c .outcome-number .ensures ∙ ap outcomeNumber (c .before .walk .ensures))
 
--- src/lib.rt:174:13
 returns-2 : tie.Need-returns-2
 unfolding walkAnswer
 returns-2 c = let t2 = c .before in let t1 = t2 .before .before in
     simp (sym (t1 .before .memory-fits .ensures) ∙ t1 .if1 .taken, sym (t2 .before .root-fits .ensures) ∙ t2 .if2 .taken, le-ltb _ _ (c .if3 .left))
 
--- src/lib.rt:176:9
 returns-3 : tie.Need-returns-3
 unfolding walkAnswer
 returns-3 c = let t1 = c .before .before in
     simp (sym (t1 .before .memory-fits .ensures) ∙ t1 .if1 .taken, sym (c .before .root-fits .ensures) ∙ c .if2 .left)
 
--- src/lib.rt:165:1
 returns-4 : tie.Need-returns-4
 unfolding walkAnswer
 returns-4 c = simp (sym (c .before .memory-fits .ensures) ∙ c .if1 .left)
