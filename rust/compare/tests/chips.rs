@@ -3,7 +3,7 @@
 use compare::{cases, keep, Tally};
 use model::chip::{Chip, Plain};
 use model::generate::{self, damaged, operation, PAGES};
-use model::machine::{Answer, Kind, Machine, Operation, Registers};
+use model::machine::{Answer, Kind, Machine, Operation};
 use model::random::Random;
 use model::walk::Entry;
 
@@ -128,49 +128,4 @@ fn stale_is_what_a_tlb_can_reach() {
         }
     }
     seen.must_have("stale pages", [false, true]);
-}
-
-fn step(machine: &mut Machine, kind: Kind, a: u32, b: u32, c: u32) -> Answer {
-    machine.step(&Operation { kind, a, b, c })
-}
-
-/// Memory whose roots 0 and 0x80 map page 0 alike and page 1 differently, and page 0 to the tables.
-fn two_maps() -> Vec<u8> {
-    let mut image = vec![0; 0x8000];
-    for (at, word) in [
-        (0x0, 0x401_u32),
-        (0x80, 0x801),
-        (0x400, 0x032),
-        (0x404, 0x3032),
-        (0x800, 0x032),
-        (0x804, 0x4032),
-    ] {
-        image[at..at + 4].copy_from_slice(&word.to_le_bytes());
-    }
-    image
-}
-
-#[test]
-fn asid_then_root() {
-    let mut machine = start(&two_maps(), 0);
-    assert_eq!(step(&mut machine, Kind::Asid, 1, 0, 0), Answer::Ok(0));
-    assert_eq!(step(&mut machine, Kind::Root, 0x80, 0, 0), Answer::Ok(0));
-    let differently = step(&mut machine, Kind::Read, 0x1000, 4, 0);
-    assert_eq!(differently, Answer::Refused(16));
-    let alike = step(&mut machine, Kind::Read, 0x0, 4, 0);
-    assert_eq!(alike, Answer::Ok(0x401));
-    assert_eq!(step(&mut machine, Kind::Root, 0, 0, 0), Answer::Ok(0));
-    let still = step(&mut machine, Kind::Read, 0x1000, 4, 0);
-    assert_eq!(still, Answer::Refused(16));
-}
-
-#[test]
-fn an_unaligned_read_of_a_stale_page() {
-    let mut machine = start(&two_maps(), 0);
-    assert_eq!(step(&mut machine, Kind::Write, 0x404, 4, 0), Answer::Ok(0));
-    let aligned = step(&mut machine, Kind::Read, 0x1000, 4, 0);
-    assert_eq!(aligned, Answer::Refused(16));
-    let unaligned = step(&mut machine, Kind::Read, 0x1001, 4, 0);
-    assert_eq!(unaligned, Answer::Fault(1));
-    assert_eq!(machine.registers, Registers::default());
 }

@@ -33,7 +33,7 @@ fn list(random: &mut Random, memory: u32) -> Vec<u8> {
     bytes
 }
 
-fn image(random: &mut Random) -> Option<Vec<u8>> {
+fn any_image(random: &mut Random) -> Option<Vec<u8>> {
     let mut image = generate::image(random);
     match random.below(30) {
         0 => return None,
@@ -49,7 +49,7 @@ fn image(random: &mut Random) -> Option<Vec<u8>> {
 fn reports() {
     let mut seen = Tally::new();
     for (case, mut random) in cases(400) {
-        let image = image(&mut random);
+        let image = any_image(&mut random);
         let memory = image.as_ref().map_or(0, Vec::len) as u32;
         let list = list(&mut random, memory);
         let expected = report(image.as_deref(), &list);
@@ -75,4 +75,60 @@ fn reports() {
     let faults = (1..=7).map(|n| named("fault", n));
     let refusals = (1..=16).filter(|n| *n != 14).map(|n| named("refused", n));
     seen.must_have("reports", faults.chain(refusals));
+}
+
+/// What the program prints behind its header, which has to be what the model says.
+fn lines(image: &[u8], list: &str) -> Vec<String> {
+    let list = format!("op,a,b,c\n{list}");
+    let found = programs::replay(list.as_bytes(), Some(image));
+    assert_eq!(found, report(Some(image), list.as_bytes()).into_bytes());
+    let found = String::from_utf8(found).expect("a report is ASCII");
+    found.lines().skip(1).map(String::from).collect()
+}
+
+fn image(words: &[(usize, u32)]) -> Vec<u8> {
+    let mut image = vec![0; 32_768];
+    for (at, word) in words {
+        image[*at..*at + 4].copy_from_slice(&word.to_le_bytes());
+    }
+    image
+}
+
+/// The image and the list of the rules.
+#[test]
+fn the_listing() {
+    let image = include_bytes!("../../../examples/image.bin");
+    let list = include_bytes!("../../../examples/list");
+    let expected = include_str!("../../../crates/replay/stdout");
+    assert_eq!(report(Some(image), list), expected);
+    assert_eq!(programs::replay(list, Some(image)), expected.as_bytes());
+}
+
+/// Roots 0 and 0x80 map page 0 alike and page 1 differently.
+#[test]
+fn asid_then_root() {
+    let first = [(0x0, 0x401), (0x400, 0x032), (0x404, 0x3032)];
+    let second = [(0x80, 0x801), (0x800, 0x032), (0x804, 0x4032)];
+    let image = image(&[first, second].concat());
+    let found = lines(
+        &image,
+        "asid,1,0,0\nroot,80,0,0\nread,1000,4,0\nread,0,4,0\nroot,0,0,0\nread,1000,4,0\n",
+    );
+    let expected = [
+        "2,asid,ok,0",
+        "3,root,ok,0",
+        "4,read,refused,10",
+        "5,read,ok,401",
+        "6,root,ok,0",
+        "7,read,refused,10",
+    ];
+    assert_eq!(found, expected);
+}
+
+#[test]
+fn an_unaligned_read_of_a_stale_page() {
+    let image = image(&[(0x0, 0x401), (0x400, 0x032), (0x404, 0x3032)]);
+    let found = lines(&image, "write,404,4,0\nread,1000,4,0\nread,1001,4,0\n");
+    let expected = ["2,write,ok,0", "3,read,refused,10", "4,read,fault,1"];
+    assert_eq!(found, expected);
 }
