@@ -1,4 +1,5 @@
-// Reads a list from standard input and memory from image.bin, and prints the report.
+// Reads memory from image.bin and a list from standard input, and prints the report. Where a read or the writing fails, it says so
+// on standard error; a file that was not read to its end gives no report.
 ghost use mathlib.Core.Path.{_≡_};
 ghost use lib.ListN.{length};
 ghost use Rattle.io.specs.Counts.{Counts};
@@ -6,17 +7,68 @@ use libc::STDIN_FILENO;
 use libc::STDOUT_FILENO;
 use report::Told;
 
-// How many bytes of the image stand in buf: none where the file is missing.
-fn read_image(buf: &mut [u8]) -> usize
-    ensures { λ r. ⌜ Counts r (now (buf .exit)) ⌝ }
+// What reading brought: how many bytes stand in the buffer, and whether that is all that the buffer or the file has.
+struct Got {
+    count: usize,
+    whole: bool,
+}
+
+// Whether a file has no byte left, and one more read says so.
+fn at_end(fd: i32) -> bool {
+    let mut byte = [0u8; 1];
+    libc::read(fd, &mut byte) == 0
+}
+
+// Reads into buf until it is full or the file ends.
+fn read_whole(fd: i32, buf: &mut [u8]) -> Got
+    ensures { λ r. ⌜ Counts (r .count) (now (buf .exit)) ⌝ }
+{
+    let n = io::read_full(fd, buf);
+    if n == buf.len() {
+        return Got {
+            count: n,
+            whole: true,
+        };
+    }
+    Got {
+        count: n,
+        whole: at_end(fd),
+    }
+}
+
+// The image: one that is missing, or of which no byte can be read, has none.
+fn read_image(buf: &mut [u8]) -> Got
+    ensures { λ r. ⌜ Counts (r .count) (now (buf .exit)) ⌝ }
 {
     let fd = os::open_read(b"image.bin");
     if fd < 0 {
-        return 0;
+        return Got {
+            count: 0,
+            whole: true,
+        };
     }
-    let n = io::read_full(fd, buf);
+    let got = read_whole(fd, buf);
     libc::close(fd);
-    n
+    if got.count == 0 {
+        return Got {
+            count: 0,
+            whole: true,
+        };
+    }
+    got
+}
+
+// The list, which is looked at only after a start that is accepted.
+fn read_list(wanted: bool, buf: &mut [u8]) -> Got
+    ensures { λ r. ⌜ Counts (r .count) (now (buf .exit)) ⌝ }
+{
+    if wanted {
+        return read_whole(STDIN_FILENO, buf);
+    }
+    Got {
+        count: 0,
+        whole: true,
+    }
 }
 
 // The buffers come from functions that ensure their lengths: a proof never computes with their elements.
@@ -44,21 +96,29 @@ fn report_buffer() -> [u8; 262272]
     [0; 262272]
 }
 
-fn main() {
-    let mut list = list_buffer();
-    let k = io::read_full(STDIN_FILENO, &mut list);
-    let mut image = image_buffer();
-    let n = read_image(&mut image);
+// Writes the report of an image buffer of which n bytes were read and a list buffer of which k were.
+fn print_report(image: &mut [u8], n: usize, list: &[u8], k: usize) {
     let mut track = track_buffer();
     let mut out = report_buffer();
-    if let Told::Report(size) = report::write_report(
-        &mut image,
-        n,
-        &list,
-        k,
-        &mut track,
-        &mut out,
-    ) {
-        io::write_all(STDOUT_FILENO, &out[..size]);
+    if let Told::Report(size) = report::write_report(image, n, list, k, &mut track, &mut out) {
+        if !io::write_all(STDOUT_FILENO, &out[..size]) {
+            os::fail(b"replay: the report cannot be written");
+        }
     }
+}
+
+fn main() {
+    let mut image = image_buffer();
+    let got = read_image(&mut image);
+    if !got.whole {
+        os::fail(b"replay: image.bin was not read to its end");
+        return;
+    }
+    let mut list = list_buffer();
+    let read = read_list(report::looks_at_list(got.count), &mut list);
+    if !read.whole {
+        os::fail(b"replay: the list was not read to its end");
+        return;
+    }
+    print_report(&mut image, got.count, &list, read.count);
 }

@@ -17,6 +17,8 @@ use Rattle.model.specs.declared.Fault.{Fault}
 use Rattle.model.specs.declared.Operation.{Operation}
 use Rattle.model.specs.declared.Refusal.{Refusal}
 use Rattle.model.specs.declared.Registers.{Registers}
+use Rattle.model.specs.declared.Check.{Check}
+use Rattle.model.specs.step.Checks.{startChecks, firstFailing}
 use Rattle.model.specs.step.Machine.{After, started}
 use Rattle.model.specs.reference.Runs.{last, checkerRun}
 use Rattle.names.specs.Names.{newline}
@@ -26,7 +28,7 @@ use Rattle.listing.specs.Whole.{listLimit, listNumber, tooLong, hasNames, Endin
 use Rattle.rows.specs.Text.{header, noName, startName, rowText, rowRoom}
 use Rattle.report.specs.declared.Told.{Told}
 use Rattle.report.specs.declared.Told.the-variants.{Report, ShortBuffer, WrongTrack, WrongCounts}
-use Rattle.report.specs.Report.{rowsOf, rowsText, Left, carriedOut, afterStart, bodyOf, headed, reportOf, imageLimit, memoryLength, trackLength, reportLimit, Ran, Call, unchanged, reported, called, Gives}
+use Rattle.report.specs.Report.{rowsOf, rowsText, Left, carriedOut, afterStart, bodyOf, headed, reportOf, imageLimit, memoryLength, trackLength, passes, looksAtList, reportLimit, Ran, Call, unchanged, reported, called, Gives}
 use Rattle.report.proofs.RowsLaws.{ended, stopped-at}
 
 -- ── The list ──
@@ -122,6 +124,11 @@ memory-fits n k h = go (leb n imageLimit)
     go : (b : Bool) → cond b n 0 ≤ k
     go true = h
     go false = omega arith
+
+-- what the check of a start says of looking at the list
+pub looked : (n k : ℕ) (x y : Check) → k ≡ memoryLength n → x ≡ firstFailing (startChecks k trackLength 0) → x ≡ y → passes y ≡ looksAtList n
+unfolding looksAtList
+looked n k x y e f g = ap passes (sym g ∙ f) ∙ ap (λ (z : ℕ). passes (firstFailing (startChecks z trackLength 0))) e
 
 module _ (i : List ℕ) (n : ℕ) (l : List ℕ) (k : ℕ) (t out : List ℕ) where
   pub call-short : length out < reportLimit → called i n l k t out ≡ unchanged ShortBuffer i t out

@@ -1,13 +1,14 @@
 -- The lines of the report show what the plain machine and every chip answer, and the report fits the named size. Assumes nothing.
 use Prim.Native.Nat.{ℕ, zero, suc, _+_, _*_, _≤_, _<_}
 use mathlib.Core.Path.{_≡_, refl, ap, ap₂, sym, _∙_}
-use mathlib.Core.Bool.{Bool, true, false, cond, true≢false}
+use mathlib.Core.Bool.{Bool, true, false, cond, not, true≢false}
 use mathlib.Core.List.{List, [], _∷_, _++_, map}
 use mathlib.Core.Logic.{_⊎_, inl, inr}
 use mathlib.Core.Option.{Option, none, some}
 use native.Mathlib.Omega.{arith}
 use lib.Dec.{ltb, eqb}
 use lib.ListN.{length, length-append, take}
+use lib.Seq.{length-take-le}
 use borrow.Author.Tests.{ltb-false}
 use Rattle.text.specs.Split.{past}
 use Rattle.text.proofs.SplitLaws.{past-length}
@@ -17,7 +18,10 @@ use Rattle.model.specs.declared.Answer.the-variants.{Done, Faulted, Refused}
 use Rattle.model.specs.declared.Operation.{Operation}
 use Rattle.model.specs.reference.Rules.{State, Move}
 use Rattle.model.specs.reference.Runs.{Checker, next, checkerRun, isRefused, seen, Moment, chipSeen}
-use Rattle.model.specs.step.Machine.{After, started}
+use Rattle.model.specs.declared.Check.{Check}
+use Rattle.model.specs.declared.Check.the-variants.{Pass, Refuse}
+use Rattle.model.specs.step.Checks.{startChecks, firstFailing}
+use Rattle.model.specs.step.Machine.{After, started, startedBy}
 use Rattle.model.specs.Invisible.{Session, Accepted, checker, checked, plainRunOf, chipRunOf}
 use Rattle.model.proofs.ThirdDemand.{invisible}
 use Rattle.listing.specs.declared.Line.{Line}
@@ -32,10 +36,10 @@ use Rattle.rows.specs.Text.{header, startName, rowText}
 use Rattle.rows.proofs.RowLaws.{row-most, refusal-most, start-most}
 use Rattle.report.specs.declared.Told.{Told}
 use Rattle.report.specs.declared.Told.the-variants.{Report, ShortBuffer, WrongTrack, WrongCounts}
-use Rattle.report.specs.Report.{rowsOf, rowsText, endText, Left, carriedOut, afterStart, bodyOf, memoryLength, trackLength, reportOf, reportLimit, unchanged, reported, called}
+use Rattle.report.specs.Report.{rowsOf, rowsText, endText, Left, carriedOut, afterStart, bodyOf, memoryLength, trackLength, passes, looksAtList, reportOf, reportLimit, unchanged, reported, called}
 use Rattle.report.specs.Shown.{session, lines, unlessRefused, plainAnswer, chipAnswer, Honest}
 use Rattle.report.proofs.RowsLaws.{rowOf, ended, lines-op, lines-refused, lines-end, stopped-at}
-use Rattle.report.proofs.ReportLaws.{read-long, read-names, read-none, not-long}
+use Rattle.report.proofs.ReportLaws.{read-long, read-names, read-none, not-long, memory-fits}
 
 -- ── The lines ──
 
@@ -74,6 +78,22 @@ unfolding isRefused
 start-refused (Done v) x l h = absurd (true≢false (sym h))
 start-refused (Faulted f) x l h = absurd (true≢false (sym h))
 start-refused (Refused r) x l h = refl
+
+-- a start is accepted exactly if its checks let it pass
+start-passes : (c : Check) (m t : List ℕ) → passes c ≡ not (isRefused (shown (startedBy c m t 0 .answer)))
+unfolding isRefused
+start-passes Pass m t = refl
+start-passes (Refuse r) m t = refl
+
+memory-most : (n : ℕ) (i : List ℕ) → n ≤ length i → length (take (memoryLength n) i) ≡ memoryLength n
+memory-most n i h = length-take-le (memoryLength n) i (memory-fits n (length i) h)
+
+before-list : (i t : List ℕ) (n : ℕ) → n ≤ length i → length t ≡ trackLength →
+    looksAtList n ≡ not (isRefused (shown (started (take (memoryLength n) i) t 0 .answer)))
+unfolding looksAtList started
+before-list i t n h e =
+    ap₂ (λ (a b : ℕ). passes (firstFailing (startChecks a b 0))) (sym (memory-most n i h)) (sym e)
+    ∙ start-passes (firstFailing (startChecks (length (take (memoryLength n) i)) (length t) 0)) (take (memoryLength n) i) t
 
 shows-lines : (m t l : List ℕ) → Accepted checker (session m t l) → reportOf m t l .text ≡ header ++ (rowsText (lines m t l) ++ endText (readList l .ending))
 unfolding reportOf bodyOf
@@ -140,7 +160,7 @@ report-fits m t l =
     omega (arith, length-append header (r .text), body-fits (started m t 0 .answer) (started m t 0) l)
 
 pub honest : Honest
-honest = record { accepted = shows-lines; refusedStart = shows-start; plain = shows-plain; chip = shows-chip; fits = report-fits }
+honest = record { accepted = shows-lines; refusedStart = shows-start; beforeTheList = before-list; plain = shows-plain; chip = shows-chip; fits = report-fits }
 
 -- a report that is told of lies within its buffer
 no-report : {p : ℕ} {x : Told} {A : Type 0} → Report p ≡ x → (x ≡ ShortBuffer) ⊎ ((x ≡ WrongTrack) ⊎ (x ≡ WrongCounts)) → A

@@ -1,7 +1,7 @@
 -- The whole report: from the bytes of an image and of a list to the bytes of the report.
 use Prim.Native.Nat.{ℕ, suc, _+_}
 use mathlib.Core.Path.{_≡_}
-use mathlib.Core.Bool.{cond}
+use mathlib.Core.Bool.{Bool, true, false, cond}
 use mathlib.Core.List.{List, [], _∷_, _++_}
 use lib.Dec.{leb, ltb, eqb}
 use lib.ListN.{length, take, drop}
@@ -9,6 +9,9 @@ use Rattle.model.specs.Numbers.{Result, refused, refusalNumber, shown}
 use Rattle.model.specs.declared.Operation.{Operation}
 use Rattle.model.specs.declared.Answer.{Answer}
 use Rattle.model.specs.declared.Answer.the-variants.{Done, Faulted, Refused}
+use Rattle.model.specs.declared.Check.{Check}
+use Rattle.model.specs.declared.Check.the-variants.{Pass, Refuse}
+use Rattle.model.specs.step.Checks.{startChecks, firstFailing}
 use Rattle.model.specs.step.Machine.{After, started}
 use Rattle.model.specs.reference.Runs.{last, checkerRun}
 use Rattle.model.specs.Invisible.{checker}
@@ -30,6 +33,15 @@ trackLength = 8192
 -- are read
 abbrev pub memoryLength : ℕ → ℕ
 memoryLength n = cond (leb n imageLimit) n 0
+
+-- whether a check lets a start pass
+abbrev pub passes : Check → Bool
+passes Pass = true
+passes (Refuse r) = false
+
+-- whether the list is looked at: only after a start, from an image file of n bytes, that is accepted
+unfoldable pub looksAtList : ℕ → Bool
+looksAtList n = passes (firstFailing (startChecks (memoryLength n) trackLength 0))
 
 -- a line of the report: the number of the list's line, its operation, and the result
 pub record Row : Type 0 where

@@ -1,10 +1,10 @@
 -- The third demand carried to the report, and that a buffer of the named size is long enough for every report.
 use Prim.Native.Nat.{ℕ, suc, _≤_}
 use mathlib.Core.Path.{_≡_}
-use mathlib.Core.Bool.{true, false, cond}
+use mathlib.Core.Bool.{true, false, cond, not}
 use mathlib.Core.List.{List, map, _++_}
 use mathlib.Core.Option.{Option, none, some}
-use lib.ListN.{length}
+use lib.ListN.{length, take}
 use Rattle.model.specs.Numbers.{Result, shown}
 use Rattle.model.specs.reference.Rules.{State, Move}
 use Rattle.model.specs.reference.Runs.{isRefused, Moment}
@@ -12,7 +12,7 @@ use Rattle.model.specs.step.Machine.{started}
 use Rattle.model.specs.Invisible.{Session, Accepted, checker, checked, plainRunOf, chipRunOf}
 use Rattle.listing.specs.Whole.{readList}
 use Rattle.rows.specs.Text.{header, startName, rowText}
-use Rattle.report.specs.Report.{Row, rowsOf, rowsText, endText, reportOf, reportLimit}
+use Rattle.report.specs.Report.{trackLength, memoryLength, looksAtList, Row, rowsOf, rowsText, endText, reportOf, reportLimit}
 
 -- a start with memory m, track t and root 0, and the operations read of the list l: those of its lines before the end or the refusal
 abbrev pub session : List ℕ → List ℕ → List ℕ → Session
@@ -42,6 +42,9 @@ pub record Honest : Type 0 where
   -- after a refused start it is the header and the start's line
   pub refusedStart : (m t l : List ℕ) → isRefused (shown (started m t 0 .answer)) ≡ true →
       reportOf m t l .text ≡ header ++ rowText 0 startName (shown (started m t 0 .answer))
+  -- whether the start is accepted is known from the image's length alone, before the list is looked at
+  pub beforeTheList : (i t : List ℕ) (n : ℕ) → n ≤ length i → length t ≡ trackLength →
+      looksAtList n ≡ not (isRefused (shown (started (take (memoryLength n) i) t 0 .answer)))
   pub plain : (m t l : List ℕ) → Accepted checker (session m t l) →
       map unlessRefused (lines m t l) ≡ map plainAnswer (plainRunOf checker (session m t l))
   pub chip : (m t l : List ℕ) → Accepted checker (session m t l) → (n : ℕ) (first : List Move) (script : ℕ → List Move) →

@@ -5,10 +5,11 @@ ghost use lib.ListN.{length};
 ghost use Rattle.model.specs.declared.Answer.the-variants.{Done};
 ghost use Rattle.model.specs.step.Machine.{After};
 ghost use Rattle.listing.specs.Whole.{readList, readLines};
-ghost use Rattle.report.specs.Report.{memoryLength, carriedOut, bodyOf, reportOf, Ran, called, Gives};
+ghost use Rattle.report.specs.Report.{memoryLength, looksAtList, carriedOut, bodyOf, reportOf, Ran, called, Gives};
 use listing::Line;
 use listing::Reason;
 use model::Answer;
+use model::Check;
 use model::Registers;
 
 // What a call answers: how long the report is, or why there is none.
@@ -27,6 +28,16 @@ fn memory_length(n: usize) -> usize
         return n;
     }
     0
+}
+
+// Whether the list is looked at: a start from an image file of n bytes is accepted.
+pub fn looks_at_list(n: usize) -> bool
+    ensures { λ r. ⌜ r ≡ looksAtList n ⌝ }
+{
+    match checks::check_start(memory_length(n), 8192, 0) {
+        Check::Pass => true,
+        Check::Refuse(_) => false,
+    }
 }
 
 // Carries out the lines of a list, the first of which is line 2, and puts their lines into the report.

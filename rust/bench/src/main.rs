@@ -43,15 +43,6 @@ fn walks() {
     ratio("100,000 walks, C function against the model", ours, theirs);
 }
 
-/// Image A of the rules, in which page 0 is the tables and page 1 is data.
-fn image_a() -> Vec<u8> {
-    let mut image = vec![0; 32_768];
-    for (at, word) in [(0x0, 0x401_u32), (0x400, 0x812), (0x404, 0x3832)] {
-        image[at..at + 4].copy_from_slice(&word.to_le_bytes());
-    }
-    image
-}
-
 fn op(kind: Kind, a: u32, b: u32, c: u32) -> Operation {
     Operation { kind, a, b, c }
 }
@@ -95,7 +86,7 @@ fn rival(list: &Path, folder: &Path) -> Vec<u8> {
 }
 
 fn reports() {
-    let image = image_a();
+    let image = generate::image_a();
     let folder = programs::Folder::with_image(Some(&image));
     for (name, operations) in lists() {
         let text = generate::text(&operations);

@@ -1,4 +1,5 @@
 //! The C functions on image A, as the rules give it.
+use model::generate::image_a;
 
 const FAULT: u64 = 0x1_0000_0000;
 const REFUSAL: u64 = 0x2_0000_0000;
@@ -9,21 +10,6 @@ const WRITE: u32 = 1;
 const MODE: u32 = 4;
 const ALL: u32 = 5;
 const ADDR: u32 = 6;
-
-fn image_a() -> Vec<u8> {
-    let mut image = vec![0; 32768];
-    let words: [(usize, u32); 5] = [
-        (0x0, 0x401),
-        (0x400, 0x812),
-        (0x404, 0x3832),
-        (0x3000, 0x1234_5678),
-        (0x4000, 0x1122_3344),
-    ];
-    for (at, word) in words {
-        image[at..at + 4].copy_from_slice(&word.to_le_bytes());
-    }
-    image
-}
 
 #[test]
 fn single_walks() {

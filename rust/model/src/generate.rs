@@ -3,6 +3,21 @@
 use crate::machine::{Kind, Operation};
 use crate::random::Random;
 
+/// Image A of the rules: 32,768 bytes, zero but for five words.
+pub fn image_a() -> Vec<u8> {
+    let mut image = vec![0; 32_768];
+    for (at, word) in [
+        (0x0, 0x401_u32),
+        (0x400, 0x812),
+        (0x404, 0x3832),
+        (0x3000, 0x1234_5678),
+        (0x4000, 0x1122_3344),
+    ] {
+        image[at..at + 4].copy_from_slice(&word.to_le_bytes());
+    }
+    image
+}
+
 /// The bytes of memory in which the generated tables lie: a page of roots, then tables.
 const TABLES: u32 = 0x2000;
 

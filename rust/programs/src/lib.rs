@@ -1,7 +1,9 @@
 //! Runs the built programs of the repository under the toolchain's loader and C library.
 use std::path::{Path, PathBuf};
-use std::process::Command;
+use std::process::{Child, Command, Output};
 use std::sync::atomic::{AtomicUsize, Ordering};
+use std::thread::sleep;
+use std::time::{Duration, Instant};
 use std::{env, fs, process};
 
 /// The toolchain's folder: `RATTLE_HOME`, or two levels above the `rt` on PATH, links followed.
@@ -21,15 +23,23 @@ fn kit() -> PathBuf {
         .to_path_buf()
 }
 
+/// The repository's folder.
+pub fn repository() -> PathBuf {
+    Path::new(env!("CARGO_MANIFEST_DIR"))
+        .ancestors()
+        .nth(2)
+        .expect("the repository is above rust/")
+        .to_path_buf()
+}
+
 /// A built program, to be run in `folder`.
-fn program(name: &str, folder: &Path) -> Command {
+pub fn program(name: &str, folder: &Path) -> Command {
     let tools = kit().join("on").join(env::consts::ARCH).join("toolchain");
     let loader = tools.join("lib/ld-linux-x86-64.so.2");
     let emulator = tools.join("bin/qemu-x86_64");
-    let built = Path::new(env!("CARGO_MANIFEST_DIR"))
-        .join("../../target/bin")
-        .join(name);
-    let built = built
+    let built = repository()
+        .join("target/bin")
+        .join(name)
         .canonicalize()
         .unwrap_or_else(|_| panic!("{name} is not built: run `rt check {name}`"));
     let mut command = if emulator.is_file() {
@@ -72,6 +82,20 @@ impl Drop for Folder {
     fn drop(&mut self) {
         let _ = fs::remove_dir_all(&self.0);
     }
+}
+
+/// Waits for a process that must end by itself, and returns what it wrote, which is less than a pipe holds. One that waits for
+/// input that never comes is ended, and fails.
+pub fn finish(mut child: Child) -> Output {
+    let began = Instant::now();
+    while child.try_wait().expect("a process").is_none() {
+        if began.elapsed() > Duration::from_secs(60) {
+            child.kill().expect("a process");
+            panic!("it waits for input that it does not need");
+        }
+        sleep(Duration::from_millis(5));
+    }
+    child.wait_with_output().expect("its output")
 }
 
 /// Runs `replay` in a folder on the list in a file, and returns what it printed.

@@ -1,23 +1,9 @@
 //! The program on the listing of the rules, and at the edges of a list and an image.
+use model::generate::image_a;
 use programs::replay;
 
 const HEADER: &str = "line,op,answer,value\n";
 const NAMES: &str = "op,a,b,c\n";
-
-/// Image A: 32,768 bytes, zero but for five words.
-fn image_a() -> Vec<u8> {
-    let mut image = vec![0; 32_768];
-    for (at, word) in [
-        (0x0, 0x401_u32),
-        (0x400, 0x812),
-        (0x404, 0x3832),
-        (0x3000, 0x1234_5678),
-        (0x4000, 0x1122_3344),
-    ] {
-        image[at..at + 4].copy_from_slice(&word.to_le_bytes());
-    }
-    image
-}
 
 /// The report of a list on image A, without its header.
 fn lines(list: &str) -> String {

@@ -1,0 +1,286 @@
+//! The command `./replay`: only a whole report ends with status 0, 1 or 3.
+use model::generate::image_a;
+use programs::{finish, repository, Folder};
+use std::fs::{self, File, Permissions};
+use std::io::Write;
+use std::os::fd::OwnedFd;
+use std::os::unix::fs::{symlink, PermissionsExt};
+use std::os::unix::net::UnixStream;
+use std::path::{Path, PathBuf};
+use std::process::{Command, Output, Stdio};
+
+const NAMES: &str = "op,a,b,c\n";
+const HEADER: &str = "line,op,answer,value\n";
+
+/// The command, with these arguments and nothing on standard input.
+fn command(arguments: &[&Path]) -> Command {
+    let mut command = Command::new(repository().join("replay"));
+    command.args(arguments).stdin(Stdio::null());
+    command.stdout(Stdio::piped()).stderr(Stdio::piped());
+    command
+}
+
+fn ended(command: &mut Command) -> (i32, String, String) {
+    let output = finish(command.spawn().expect("the command runs"));
+    told(&output)
+}
+
+/// Status, standard output and standard error.
+fn told(output: &Output) -> (i32, String, String) {
+    (
+        output.status.code().unwrap_or(-1),
+        String::from_utf8_lossy(&output.stdout).into_owned(),
+        String::from_utf8_lossy(&output.stderr).into_owned(),
+    )
+}
+
+/// A folder with image A and a list.
+fn folder_with(list: &str) -> (Folder, PathBuf, PathBuf) {
+    let folder = Folder::with_image(Some(&image_a()));
+    let (image, file) = (folder.path().join("image.bin"), folder.path().join("list"));
+    fs::write(&file, list).expect("the list");
+    (folder, image, file)
+}
+
+fn of_list(list: &str) -> (i32, String, String) {
+    let (_folder, image, file) = folder_with(list);
+    ended(&mut command(&[&image, &file]))
+}
+
+fn with_names(lines: &str) -> String {
+    format!("{NAMES}{lines}")
+}
+
+/// A list of `mode,0,0,0` with a stale read of page 1 at line 3003.
+fn stale_at_3003() -> String {
+    let before = "mode,0,0,0\n".repeat(3_000);
+    with_names(&format!("{before}write,404,4,4832\nread,1000,4,0\n"))
+}
+
+#[test]
+fn each_status() {
+    assert_eq!(of_list(&with_names("read,1000,4,0\n")).0, 0);
+    assert_eq!(of_list(NAMES).0, 0);
+    assert_eq!(of_list(&stale_at_3003()).0, 1);
+    assert_eq!(of_list(&with_names("read,1000,3,0\n")).0, 3);
+    assert_eq!(of_list("").0, 3);
+    let (_folder, image, list) = folder_with(NAMES);
+    assert_eq!(ended(&mut command(&[&image, Path::new("no-list")])).0, 2);
+    assert_eq!(ended(&mut command(&[Path::new("no-image"), &list])).0, 2);
+    assert_eq!(ended(&mut command(&[&image])).0, 2);
+    let (status, help, _) = ended(&mut command(&[Path::new("--help")]));
+    assert_eq!(status, 0);
+    assert!(help.contains("status:"));
+}
+
+#[test]
+fn refusals_are_explained() {
+    let more = "asid,8,0,0\n".repeat(11);
+    let list = with_names(&format!("write,404,4,4832\nread,1000,4,0\n{more}"));
+    let (status, _, error) = of_list(&list);
+    assert_eq!(status, 1);
+    let told: Vec<&str> = error.lines().collect();
+    assert_eq!(told.len(), 12);
+    assert!(told[0].contains("list:3: read,1000,4,0: refused: 16, the page is stale"));
+    assert!(told[9].contains("list:12: asid,8,0,0: refused: 11, "));
+    assert_eq!(told[10], "replay: 2 more are refused");
+    let counts = "replay: 1 lines carried out, 0 of which faulted; 12 refused, 1 of which as stale";
+    assert_eq!(told[11], counts);
+}
+
+#[test]
+fn common_mistakes_are_named() {
+    for (list, says) in [
+        ("op,a,b,c\r\nall,0,0,0\r\n", "carriage return"),
+        ("op,a,b,c\nall,0,0,0\r\n", "carriage return"),
+        ("\u{feff}op,a,b,c\n", "byte-order mark"),
+        ("op,a,b,c\nread,ABC,4,0\n", "lower case"),
+        ("op,a,b,c\nREAD,1000,4,0\n", "lower case"),
+        ("\0\0\0\0", "swapped"),
+    ] {
+        let (status, _, error) = of_list(list);
+        assert_eq!(status, 3, "{list}");
+        assert!(error.contains(says), "{list}: {error}");
+    }
+    let (_folder, image, list) = folder_with(NAMES);
+    let (status, _, error) = ended(&mut command(&[&list, &image]));
+    assert_eq!(status, 3);
+    assert!(error.contains("swapped"), "{error}");
+    for (length, says) in [
+        (0, "empty"),
+        (5_000, "5000 bytes"),
+        (36_864, "more than 32,768"),
+    ] {
+        fs::write(&image, vec![0; length]).expect("the image");
+        let (status, report, error) = ended(&mut command(&[&image, &list]));
+        assert_eq!(
+            (status, report.as_str()),
+            (3, "line,op,answer,value\n0,start,refused,d\n")
+        );
+        assert!(error.contains(says), "{error}");
+    }
+}
+
+#[test]
+fn streams_and_links() {
+    let (folder, image, list) = folder_with(&with_names("read,1000,4,0\n"));
+    let report = "line,op,answer,value\n2,read,ok,12345678\n";
+    let (dash, link) = (Path::new("-"), folder.path().join("link"));
+    symlink(repository().join("replay"), &link).expect("a link");
+    let mut linked = Command::new(&link);
+    linked
+        .args([&image, &list])
+        .stdout(Stdio::piped())
+        .stderr(Stdio::piped());
+    for command in [
+        &mut linked,
+        command(&[&image, dash]).stdin(File::open(&list).expect("the list")),
+        command(&[dash, &list]).stdin(File::open(&image).expect("the image")),
+    ] {
+        let (status, printed, error) = ended(command);
+        assert_eq!((status, printed.as_str()), (0, report), "{error}");
+    }
+    let fifo = folder.path().join("fifo");
+    let made = Command::new("mkfifo").arg(&fifo).status();
+    assert!(made.expect("mkfifo runs").success());
+    let child = command(&[&image, &fifo]).spawn().expect("the command runs");
+    fs::copy(&list, &fifo).expect("the list into the FIFO");
+    assert_eq!(told(&finish(child)).1, report);
+    assert_eq!(ended(&mut command(&[dash, dash])).0, 2);
+}
+
+#[test]
+fn a_refused_start_with_an_open_pipe() {
+    let (_folder, image, _list) = folder_with(NAMES);
+    fs::write(&image, vec![0; 5_000]).expect("the image");
+    let mut child = command(&[&image, Path::new("-")])
+        .stdin(Stdio::piped())
+        .spawn()
+        .expect("the command runs");
+    let held = child.stdin.take();
+    assert_eq!(told(&finish(child)).0, 3);
+    drop(held);
+}
+
+#[test]
+fn a_list_that_pauses() {
+    let (_folder, image, _list) = folder_with(NAMES);
+    let (mut ours, theirs) = UnixStream::pair().expect("a connection");
+    theirs.set_nonblocking(true).expect("no waiting");
+    ours.write_all(b"op,a,b,c\nread,1000,4,0\n").expect("lines");
+    let (status, report, error) =
+        ended(command(&[&image, Path::new("-")]).stdin(OwnedFd::from(theirs)));
+    assert_eq!((status, report.as_str()), (2, ""), "{error}");
+}
+
+#[test]
+fn output_that_cannot_be_written() {
+    let (folder, image, list) = folder_with(&stale_at_3003());
+    let full = File::options().write(true).open("/dev/full");
+    let (status, _, _) = ended(command(&[&image, &list]).stdout(full.expect("/dev/full")));
+    assert_eq!(status, 2);
+    let (ours, theirs) = UnixStream::pair().expect("a connection");
+    drop(ours);
+    let (status, _, _) = ended(command(&[&image, &list]).stdout(OwnedFd::from(theirs)));
+    assert_eq!(status, 2);
+    // A limit on the size of files cuts the report short, as a full disk does.
+    let script = "trap '' XFSZ; ulimit -f 40; exec \"$@\" >report";
+    let mut limited = Command::new("bash");
+    limited
+        .args(["-c", script, "bash"])
+        .arg(repository().join("replay"))
+        .args([&image, &list])
+        .current_dir(folder.path())
+        .stdout(Stdio::piped())
+        .stderr(Stdio::piped());
+    assert_eq!(ended(&mut limited).0, 2);
+}
+
+/// A repository of its own, in which a toolchain that proves nothing builds nothing, and whose program prints a text.
+struct Stage(Folder);
+
+impl Stage {
+    fn new() -> Stage {
+        let folder = Folder::with_image(Some(&image_a()));
+        for inner in ["docs", "crates", "target/bin", "kit/bin"] {
+            fs::create_dir_all(folder.path().join(inner)).expect("a folder");
+        }
+        let stage = Stage(folder);
+        for file in ["replay", "crates.txt", "docs/FORMATS.md"] {
+            fs::copy(repository().join(file), stage.at(file)).expect("a file of the repository");
+        }
+        let lib = format!("kit/on/{}/toolchain/lib", std::env::consts::ARCH);
+        fs::create_dir_all(stage.at(&lib)).expect("a folder");
+        stage.script(&format!("{lib}/ld-linux-x86-64.so.2"), "cat \"$PRINTS\"");
+        stage.script("kit/bin/rt", "echo \"rt: $*\"; exit 0");
+        stage.script("target/bin/replay", "exit 1");
+        stage
+    }
+
+    fn at(&self, name: &str) -> PathBuf {
+        self.0.path().join(name)
+    }
+
+    fn script(&self, name: &str, text: &str) {
+        let path = self.at(name);
+        fs::write(&path, format!("#!/bin/sh\n{text}\n")).expect("a script");
+        fs::set_permissions(&path, Permissions::from_mode(0o755)).expect("its mode");
+    }
+
+    /// Runs the command on a list with a program that prints this report.
+    fn ended(&self, list: &str, report: &str) -> (i32, String, String) {
+        fs::write(self.at("list"), list).expect("the list");
+        fs::write(self.at("prints"), report).expect("the report");
+        let mut path = self.at("kit/bin").into_os_string();
+        path.push(":");
+        path.push(std::env::var_os("PATH").expect("PATH is set"));
+        let mut command = Command::new(self.at("replay"));
+        command
+            .args([self.at("image.bin"), self.at("list")])
+            .env("RATTLE_HOME", self.at("kit"))
+            .env("PATH", path)
+            .env("PRINTS", self.at("prints"))
+            .stdout(Stdio::piped())
+            .stderr(Stdio::piped());
+        ended(&mut command)
+    }
+}
+
+#[test]
+fn a_report_cut_short() {
+    let stage = Stage::new();
+    let list = with_names("mode,0,0,0\nall,0,0,0\n");
+    let whole = format!("{HEADER}2,mode,ok,0\n3,all,ok,0\n");
+    assert_eq!(stage.ended(&list, &whole).0, 0);
+    for length in 0..whole.len() {
+        let (status, printed, _) = stage.ended(&list, &whole[..length]);
+        assert_eq!((status, printed.as_str()), (2, ""), "{length} bytes");
+    }
+    for wrong in [
+        "2,mode,ok,0\n3,all,ok,0\n".to_string(),
+        format!("{HEADER}3,all,ok,0\n2,mode,ok,0\n"),
+        format!("{HEADER}2,mode,ok,0\n3,all,ok,0\n4,all,ok,0\n"),
+        format!("{HEADER}1,-,refused,2\n3,all,ok,0\n"),
+    ] {
+        assert_eq!(stage.ended(&list, &wrong).0, 2, "{wrong}");
+    }
+    assert_eq!(stage.ended(&list, &format!("{HEADER}2,-,refused,3\n")).0, 3);
+    assert_eq!(
+        stage
+            .ended(&list, &format!("{HEADER}0,start,refused,d\n"))
+            .0,
+        3
+    );
+}
+
+#[test]
+fn a_failed_build() {
+    let stage = Stage::new();
+    let report = format!("{HEADER}2,mode,ok,0\n");
+    assert_eq!(stage.ended(&with_names("mode,0,0,0\n"), &report).0, 0);
+    stage.script("kit/bin/rt", "echo 'rt: replay NOT PROVED'; exit 1");
+    fs::write(stage.at("crates/newer"), "").expect("a source");
+    let (status, printed, error) = stage.ended(&with_names("mode,0,0,0\n"), &report);
+    assert_eq!((status, printed.as_str()), (2, ""));
+    assert!(error.contains("NOT PROVED"), "{error}");
+}

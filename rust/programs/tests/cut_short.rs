@@ -1,0 +1,110 @@
+//! The program where a read or the writing fails: it says so on standard error, and what was not read to its end gives no report.
+use model::generate::image_a;
+use programs::{finish, program, Folder};
+use std::fs::File;
+use std::io::Write;
+use std::os::fd::OwnedFd;
+use std::os::unix::net::UnixStream;
+use std::process::{Command, Output, Stdio};
+
+const LIST: &[u8] = b"op,a,b,c\nread,1000,4,0\n";
+
+/// Standard output, which must be empty, and standard error, which must say this.
+fn no_report(output: &Output, says: &str) {
+    let error = String::from_utf8_lossy(&output.stderr);
+    assert_eq!(String::from_utf8_lossy(&output.stdout), "");
+    assert!(error.contains(says), "standard error: {error}");
+}
+
+/// `replay` on image A, with its output and errors kept.
+fn replay(folder: &Folder) -> Command {
+    let mut command = program("replay", folder.path());
+    command.stdout(Stdio::piped()).stderr(Stdio::piped());
+    command
+}
+
+/// The two ends of a connection, of which the second does not wait where nothing has come.
+fn paused() -> (UnixStream, OwnedFd) {
+    let (ours, theirs) = UnixStream::pair().expect("a connection");
+    theirs.set_nonblocking(true).expect("no waiting");
+    (ours, theirs.into())
+}
+
+#[test]
+fn a_full_device() {
+    let folder = Folder::with_image(Some(&image_a()));
+    let full = File::options().write(true).open("/dev/full");
+    let child = replay(&folder)
+        .stdin(Stdio::null())
+        .stdout(full.expect("/dev/full"))
+        .spawn();
+    let output = finish(child.expect("replay runs"));
+    no_report(&output, "the report cannot be written");
+}
+
+#[test]
+fn a_list_that_pauses() {
+    for bytes in [b"".as_slice(), LIST, b"op,a"] {
+        let folder = Folder::with_image(Some(&image_a()));
+        let (mut ours, theirs) = paused();
+        ours.write_all(bytes).expect("the first lines");
+        let child = replay(&folder).stdin(theirs).spawn();
+        let output = finish(child.expect("replay runs"));
+        no_report(&output, "the list was not read to its end");
+    }
+}
+
+#[test]
+fn a_list_that_pauses_and_ends_in_time() {
+    let folder = Folder::with_image(Some(&image_a()));
+    let (mut ours, theirs) = UnixStream::pair().expect("a connection");
+    ours.write_all(&LIST[..12]).expect("the first lines");
+    let child = replay(&folder).stdin(OwnedFd::from(theirs)).spawn();
+    ours.write_all(&LIST[12..]).expect("the last lines");
+    drop(ours);
+    let output = finish(child.expect("replay runs"));
+    let report = String::from_utf8_lossy(&output.stdout);
+    assert_eq!(report, "line,op,answer,value\n2,read,ok,12345678\n");
+    assert_eq!(output.stderr, b"");
+}
+
+#[test]
+fn a_closed_standard_input() {
+    let folder = Folder::with_image(Some(&image_a()));
+    let inner = replay(&folder);
+    let mut command = Command::new("sh");
+    command
+        .args(["-c", "exec \"$@\" <&-", "sh"])
+        .arg(inner.get_program())
+        .args(inner.get_args())
+        .current_dir(folder.path());
+    let output = command.output().expect("sh runs");
+    no_report(&output, "the list was not read to its end");
+}
+
+#[test]
+fn a_refused_start_with_an_open_pipe() {
+    let odd = vec![0; 5_000];
+    for image in [None, Some(odd.as_slice())] {
+        let folder = Folder::with_image(image);
+        let mut child = replay(&folder)
+            .stdin(Stdio::piped())
+            .spawn()
+            .expect("replay runs");
+        let held = child.stdin.take();
+        let output = finish(child);
+        let report = String::from_utf8_lossy(&output.stdout);
+        assert_eq!(report, "line,op,answer,value\n0,start,refused,d\n");
+        drop(held);
+    }
+}
+
+#[test]
+fn an_image_of_which_no_byte_can_be_read() {
+    let folder = Folder::with_image(None);
+    std::fs::create_dir(folder.path().join("image.bin")).expect("a folder");
+    let child = replay(&folder).stdin(Stdio::null()).spawn();
+    let output = finish(child.expect("replay runs"));
+    let report = String::from_utf8_lossy(&output.stdout);
+    assert_eq!(report, "line,op,answer,value\n0,start,refused,d\n");
+}
