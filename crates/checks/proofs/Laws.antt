@@ -14,21 +14,21 @@ use Rattle.model.specs.declared.Kind.the-variants.{Read, Write, Root, Asid, Mod
 use Rattle.model.specs.declared.Refusal.{Refusal}
 use Rattle.model.specs.declared.Check.{Check}
 use Rattle.model.specs.declared.Check.the-variants.{Pass, Refuse}
-use Rattle.model.specs.step.Checks.{firstFailing}
+use Rattle.model.specs.step.Checks.{firstFailing, Says}
 
 -- a check that is passed, and one that is not: t is the answer of the function for the check u
-pub passed : {t u : Bool} {x : Check} (n : Refusal) (xs : List (Bool × Refusal)) → t ≡ u → not t ≡ false → x ≡ firstFailing xs → x ≡ firstFailing ((u, n) ∷ xs)
+pub passed : {t u : Bool} {x : Check} (n : Refusal) (xs : List (Bool × Refusal)) → t ≡ u → not t ≡ false → Says (firstFailing xs) x → Says (firstFailing ((u, n) ∷ xs)) x
 unfolding firstFailing
 passed {t} n xs e h p = rw (sym e ∙ not-false t h) p
 
-pub failed : {t u : Bool} (n : Refusal) (xs : List (Bool × Refusal)) → t ≡ u → not t ≡ true → Refuse n ≡ firstFailing ((u, n) ∷ xs)
+pub failed : {t u : Bool} (n : Refusal) (xs : List (Bool × Refusal)) → t ≡ u → not t ≡ true → Says (firstFailing ((u, n) ∷ xs)) (Refuse n)
 unfolding firstFailing
-failed {t} n xs e h = rw (sym e ∙ not-true t h)
+failed {t} n xs e h = rw (sym e ∙ not-true t h) (record { check = refl; number = refl })
 
 -- no check is left
-pub none-left : Pass ≡ firstFailing []
+pub none-left : Says (firstFailing []) Pass
 unfolding firstFailing
-none-left = refl
+none-left = record { check = refl; number = refl }
 
 -- The arm for the other kinds: ks are their places among the variants, and P is shown of each of them.
 abbrev pub When : Bool → Type 0 → Type 0

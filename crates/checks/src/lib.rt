@@ -2,7 +2,7 @@
 ghost use mathlib.Core.Path.{_≡_};
 ghost use Prim.Native.Nat.{_<_};
 ghost use Rattle.model.specs.Numbers.{refusalNumber};
-ghost use Rattle.model.specs.step.Checks.{sizeFits, addressFits, valueFits, newRootFits, contextFits, modeFits, mayAsk, checks, startChecks, firstFailing};
+ghost use Rattle.model.specs.step.Checks.{sizeFits, addressFits, valueFits, newRootFits, contextFits, modeFits, mayAsk, checks, startChecks, firstFailing, Says};
 use limits::fits_size;
 use limits::is_size;
 use limits::lengths_fit;
@@ -94,7 +94,7 @@ pub fn may_ask(kind: Kind, mode: u32) -> bool
 
 // The first check that an operation fails, on a memory of m bytes and a track of t words.
 pub fn check(o: Operation, r: Registers, m: usize, t: usize) -> Check
-    ensures { λ x. ⌜ x ≡ firstFailing (checks o r m t) ⌝ }
+    ensures { λ x. ⌜ Says (firstFailing (checks o r m t)) x ⌝ }
 {
     let kind = o.kind;
     let lengths = lengths_fit(m, t);
@@ -138,7 +138,7 @@ pub fn check(o: Operation, r: Registers, m: usize, t: usize) -> Check
 
 // The first check that a start fails.
 pub fn check_start(m: usize, t: usize, root: u32) -> Check
-    ensures { λ x. ⌜ x ≡ firstFailing (startChecks m t root) ⌝ }
+    ensures { λ x. ⌜ Says (firstFailing (startChecks m t root)) x ⌝ }
 {
     if !lengths_fit(m, t) {
         return Check::Refuse(Refusal::WrongLengths);

@@ -1,16 +1,20 @@
 -- What the C functions give, from what the machine gives.
-use Prim.Native.Nat.{ℕ}
+use Prim.Native.Nat.{ℕ, _<_}
 use mathlib.Core.Path.{_≡_, refl, sym, ap, _∙_, subst₂}
 use mathlib.Core.Bool.{Bool, true, false, cond, true≢false}
 use mathlib.Core.List.{List}
 use lib.Dec.{eqb, ltb}
 use lib.ListN.{length, getD}
 use borrow.Author.Tests.{eqb-true, eq-eqb, ne-eqb}
+use Rattle.model.proofs.Tests.{allBelow, at-each}
+use Rattle.model.specs.Numbers.{kindNumber}
+use Rattle.model.specs.declared.Kind.{Kind}
+use Rattle.model.specs.declared.Kind.the-variants.{Read, Write, Root, Asid, Mode, All, Addr, Ctx, AddrCtx}
 use Rattle.model.specs.declared.Operation.{Operation}
 use Rattle.model.specs.declared.Registers.{Registers}
 use Rattle.model.specs.declared.Returned.{Returned}
 use Rattle.model.specs.step.Machine.{After, Gives, stepped, started}
-use Rattle.ffi.specs.Words.{operationFrom, registersFrom, registersInto, answerNumber, areWords, Left, called, stepCall, startCall}
+use Rattle.ffi.specs.Words.{kindFrom, KindNumbers, operationFrom, registersFrom, registersInto, answerNumber, areWords, Left, called, stepCall, startCall}
 
 -- what is left where the machine was called
 left-called : (z : After) (y : Returned) (x : ℕ) (r r′ m′ t′ : List ℕ) → Gives z y m′ t′ → r′ ≡ registersInto r (y .registers) → x ≡ answerNumber (y .answer) → Left (called z r) x r′ m′ t′
@@ -50,3 +54,23 @@ module _ (m t : List ℕ) (root : ℕ) (r : List ℕ) where
   pub start-not : (length r ≡ 3 → ⊥) → Left (startCall m t root r) 0x300000000 r m t
   unfolding startCall
   start-not n = rw (ne-eqb (length r) 3 n) (record { number = refl; registers = refl; memory = refl; track = refl })
+
+-- the kind with a number below 9 has that number: one test over the nine
+kind-back : (n : ℕ) → n < 9 → kindNumber (kindFrom n) ≡ n
+unfolding kindFrom allBelow
+kind-back n h = eqb-true (kindNumber (kindFrom n)) n (at-each 9 (λ i. eqb (kindNumber (kindFrom i)) i) refl n h)
+
+pub kind-numbers : KindNumbers
+unfolding kindFrom
+kind-numbers = record { there = there; back = kind-back }
+  where
+    there : (k : Kind) → kindFrom (kindNumber k) ≡ k
+    there Read = refl
+    there Write = refl
+    there Root = refl
+    there Asid = refl
+    there Mode = refl
+    there All = refl
+    there Addr = refl
+    there Ctx = refl
+    there AddrCtx = refl

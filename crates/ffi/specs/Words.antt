@@ -1,14 +1,13 @@
 -- Operations, registers and answers as words, and the two C functions.
-use Prim.Native.Nat.{ℕ, _+_}
+use Prim.Native.Nat.{ℕ, _+_, _<_}
 use mathlib.Core.Path.{_≡_}
 use mathlib.Core.Bool.{Bool, true, false, cond}
 use mathlib.Core.List.{List}
 use lib.Dec.{eqb, ltb}
 use lib.ListN.{length, getD, set}
-use Rattle.model.specs.Numbers.{faultNumber, refusalNumber}
+use Rattle.model.specs.Numbers.{kindNumber, Result, ok, fault, refused, shown}
 use Rattle.model.specs.step.Machine.{After, stepped, started}
 use Rattle.model.specs.declared.Answer.{Answer}
-use Rattle.model.specs.declared.Answer.the-variants.{Done, Faulted, Refused}
 use Rattle.model.specs.declared.Kind.{Kind}
 use Rattle.model.specs.declared.Kind.the-variants.{Read, Write, Root, Asid, Mode, All, Addr, Ctx, AddrCtx}
 use Rattle.model.specs.declared.Operation.{Operation}
@@ -26,6 +25,11 @@ kindFrom k =
     (cond (eqb k 6) Addr
     (cond (eqb k 7) Ctx AddrCtx)))))))
 
+-- Kinds have the numbers of the rules, one to one.
+pub record KindNumbers : Type 0 where
+  pub there : (k : Kind) → kindFrom (kindNumber k) ≡ k
+  pub back : (n : ℕ) → n < 9 → kindNumber (kindFrom n) ≡ n
+
 -- kind, a, b and c as four words
 unfoldable pub operationFrom : List ℕ → Operation
 operationFrom o = record { kind = kindFrom (getD o 0 0); a = getD o 1 0; b = getD o 2 0; c = getD o 3 0 }
@@ -37,11 +41,14 @@ registersFrom r = record { root = getD r 0 0; context = getD r 1 0; mode = getD 
 unfoldable pub registersInto : List ℕ → Registers → List ℕ
 registersInto l x = set (set (set l 0 (x .root)) 1 (x .context)) 2 (x .mode)
 
--- an answer as one number: the value, a fault above every value, a refusal above every fault
+-- a result of the rules as one number: the value, a fault above every value, a refusal above every fault
+abbrev pub resultNumber : Result → ℕ
+resultNumber (ok v) = v
+resultNumber (fault n) = 0x100000000 + n
+resultNumber (refused n) = 0x200000000 + n
+
 abbrev pub answerNumber : Answer → ℕ
-answerNumber (Done v) = v
-answerNumber (Faulted f) = 0x100000000 + faultNumber f
-answerNumber (Refused n) = 0x200000000 + refusalNumber n
+answerNumber x = resultNumber (shown x)
 
 -- what a C function returns, and what it leaves
 pub record Called : Type 0 where

@@ -9,6 +9,7 @@ pub mod Words
 pub mod Track
 pub mod Effect
 pub mod Calls
+pub mod SingleWalk
 pub mod OddWords
 pub mod Instance
 pub mod Kept

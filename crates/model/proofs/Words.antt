@@ -61,7 +61,7 @@ walk-range m root page = first-from m (descriptorAt m (root + 4 * (page / 256)))
 
 -- ── Words of entries ──
 
-word-same : (e : Entry) → Fits e → entryWord e ≡ wordOf e
+pub word-same : (e : Entry) → Fits e → entryWord e ≡ wordOf e
 unfolding wordOf
 word-same e h = omega arith
 

@@ -7,8 +7,9 @@ use mathlib.Core.List.{List}
 use lib.ListN.{length}
 use Rattle.model.specs.Limits.{rowSize}
 use Rattle.model.specs.Numbers.{Result, ok, refused, shown}
-use Rattle.model.specs.reference.Rules.{Translation, State, fresh, carriedOut, flushes, several, kept, wordOf, trackWord, stale, notedIn, wordAfter, contexts, conditions, startConditions, Given}
+use Rattle.model.specs.reference.Rules.{Translation, State, fresh, carriedOut, flushes, several, kept, wordOf, trackWord, stale, notedIn, wordAfter, contexts, conditions, startConditions, walkConditions, Given, walk, translationNumber, refusedWalk}
 use Rattle.model.specs.step.Machine.{After, stepped, started}
+use Rattle.model.specs.step.WalkAnswer.{walkAnswer}
 use Rattle.model.specs.Types.{Registers, Operation, Entry}
 
 -- What an operation is given: registers by value, memory and track lent.
@@ -77,3 +78,11 @@ pub record OddWords : Type 0 where
   pub goes : (x : Call) → ((r : ℕ) → Given r (conditionsOf x) → ⊥) → (c p : ℕ) → c < contexts (x .track) → p < rowSize →
       flushes (x .operation .kind) (x .operation) c p ≡ true →
       trackWord (after x .track) c p ≡ notedIn (carriedOut (x .operation) (before x) .1) c p 0
+
+-- The walk of one address of an image, as one number.
+pub record SingleWalk : Type 0 where
+  -- it is refused with a number exactly when the number's condition holds and none before it does
+  pub exactly : (m : List ℕ) (root a r : ℕ) → (walkAnswer m root a ≡ refusedWalk r) ↔ Given r (walkConditions m root a)
+  -- else its answer is what the walk of the rules finds
+  pub walks : (m : List ℕ) (root a : ℕ) → ((r : ℕ) → Given r (walkConditions m root a) → ⊥) →
+      walkAnswer m root a ≡ translationNumber (walk m root a)

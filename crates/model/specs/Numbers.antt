@@ -1,6 +1,7 @@
 -- The numbers that the rules give to kinds, faults and refusals, and what an answer shows.
 use Prim.Native.Nat.{ℕ}
-use Rattle.model.specs.Types.{Kind, Read, Write, Root, Asid, Mode, All, Addr, Ctx, AddrCtx, Fault, Alignment, FirstUnmapped, SecondUnmapped, Permission, FirstOutside, SecondOutside, AccessOutside, Refusal, WrongSize, WrongAddress, WrongValue, WrongRoot, WrongContext, WrongMode, WrongLengths, WrongRegisters, UserMode, StalePage, Answer, Done, Faulted, Refused}
+use mathlib.Core.Option.{Option, none, some}
+use Rattle.model.specs.Types.{Kind, Read, Write, Root, Asid, Mode, All, Addr, Ctx, AddrCtx, Fault, Alignment, FirstUnmapped, SecondUnmapped, Permission, FirstOutside, SecondOutside, AccessOutside, Refusal, WrongSize, WrongAddress, WrongValue, WrongRoot, WrongContext, WrongMode, WrongLengths, WrongRegisters, UserMode, StalePage, Answer, Done, Faulted, Refused, Check, Pass, Refuse}
 
 -- the place of a kind in the rules' list of operations
 abbrev pub kindNumber : Kind → ℕ
@@ -45,3 +46,8 @@ abbrev pub shown : Answer → Result
 shown (Done v) = ok v
 shown (Faulted f) = fault (faultNumber f)
 shown (Refused r) = refused (refusalNumber r)
+
+-- the number with which a check refuses, if it does
+abbrev pub checkNumber : Check → Option ℕ
+checkNumber Pass = none
+checkNumber (Refuse r) = some (refusalNumber r)

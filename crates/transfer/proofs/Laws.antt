@@ -16,8 +16,8 @@ regive y z x m t e g = subst (λ (w : After). Gives w x m t) e g
 
 -- turned back: all as given
 pub turned : (y : After) (n : Refusal) (r : Registers) (m t : List ℕ) → turnedBack n r m t ≡ y → Gives y (record { answer = Refused n; registers = r }) m t
-turned y n r m t e = regive y (turnedBack n r m t) _ m t e (record { answer = refl; registers = refl; memory = refl; track = refl })
+turned y n r m t e = regive y (turnedBack n r m t) _ m t e (record { answer = refl; shows = refl; registers = refl; memory = refl; track = refl })
 
 -- carried out: u is the track noted
 pub noted : (x : Answer) (r : Registers) (m t u : List ℕ) → u ≡ noteTrack m (r .root) (r .context) t → Gives (carried x r m t) (record { answer = x; registers = r }) m u
-noted x r m t u e = record { answer = refl; registers = refl; memory = refl; track = e }
+noted x r m t u e = record { answer = refl; shows = refl; registers = refl; memory = refl; track = e }

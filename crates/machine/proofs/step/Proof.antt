@@ -32,7 +32,7 @@ carry-out-requires c κs = search needs
 returns : tie.Need-returns
 unfolding stepped
 returns c = let n = c .before in let h = n .before .before in let a = h .before .before .before .args in
-    turned _ _ _ _ _ (sym (ap (λ (z : Check). checked z (a .o) (a .r) (now (a .m)) (now (a .t))) (sym (h .check .ensures) ∙ n .n .given .1)))
+    turned _ _ _ _ _ (sym (ap (λ (z : Check). checked z (a .o) (a .r) (now (a .m)) (now (a .t))) (sym (h .check .ensures .check) ∙ n .n .given .1)))
 
 same-length : tie.Need-same-length
 same-length c = search needs
@@ -43,7 +43,7 @@ same-length-2 c = search needs
 returns-2 : tie.Need-returns-2
 unfolding stepped
 returns-2 c = let k = c .before .before .before .before in let e = k .before .before .before in let h = e .before .before in let a = h .before .before .before .args in
-    regive _ _ _ _ _ (sym (ap (λ (z : Check). checked z (a .o) (a .r) (now (a .m)) (now (a .t))) (sym (h .check .ensures) ∙ e .enum-told .given .1))) (k .carry-out .ensures)
+    regive _ _ _ _ _ (sym (ap (λ (z : Check). checked z (a .o) (a .r) (now (a .m)) (now (a .t))) (sym (h .check .ensures .check) ∙ e .enum-told .given .1))) (k .carry-out .ensures)
 
 pub step-spec : {M : Type 1} → statement M
 step-spec =

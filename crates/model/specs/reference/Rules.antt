@@ -298,8 +298,11 @@ refuses9 o =
     && (eqb (o .b) 1 && leb 0x100 (o .c) || eqb (o .b) 2 && leb 0x10000 (o .c) || eqb (o .b) 4 && leb 0x100000000 (o .c))
 
 -- 10 root not a multiple of 0x80
+abbrev pub wrongRoot : ℕ → Bool
+wrongRoot root = not (eqb (root % rootAlignment) 0)
+
 unfoldable pub refuses10 : Operation → Bool
-refuses10 o = among (o .kind) (Root ∷ []) && not (eqb (o .a % rootAlignment) 0)
+refuses10 o = among (o .kind) (Root ∷ []) && wrongRoot (o .a)
 
 -- 11 context k or more
 unfoldable pub refuses11 : Operation → ℕ → Bool
@@ -310,14 +313,18 @@ unfoldable pub refuses12 : Operation → Bool
 refuses12 o = among (o .kind) (Mode ∷ []) && leb 2 (o .a)
 
 -- 13 lent lengths: memory a multiple of 4,096 from 4,096 to 16,777,216; track 1,024 × k, k from 1 to 256
+abbrev pub wrongMemory : List ℕ → Bool
+wrongMemory m = not (eqb (length m % memoryUnit) 0 && leb memoryUnit (length m) && leb (length m) memoryMost)
+
+abbrev pub wrongTrack : List ℕ → Bool
+wrongTrack t = not (eqb (length t) (rowSize * contexts t) && leb 1 (contexts t) && leb (contexts t) contextsMost)
+
 unfoldable pub refuses13 : List ℕ → List ℕ → Bool
-refuses13 m t =
-    not (eqb (length m % memoryUnit) 0 && leb memoryUnit (length m) && leb (length m) memoryMost)
-    || not (eqb (length t) (rowSize * contexts t) && leb 1 (contexts t) && leb (contexts t) contextsMost)
+refuses13 m t = wrongMemory m || wrongTrack t
 
 -- 14 registers out of range: root a multiple of 0x80, context 0 to k − 1, mode 0 or 1
 unfoldable pub refuses14 : Registers → ℕ → Bool
-refuses14 r k = not (eqb (r .root % rootAlignment) 0) || leb k (r .context) || leb 2 (r .mode)
+refuses14 r k = wrongRoot (r .root) || leb k (r .context) || leb 2 (r .mode)
 
 -- 15 user mode: all operations but read, write and mode need kernel mode
 unfoldable pub refuses15 : Operation → Registers → Bool
@@ -337,9 +344,23 @@ conditions o r m t =
 
 -- Start can give 13 and 10, 13 first.
 unfoldable pub startConditions : List ℕ → List ℕ → ℕ → List (ℕ × Bool)
-startConditions m t root = (13, refuses13 m t) ∷ (10, not (eqb (root % rootAlignment) 0)) ∷ []
+startConditions m t root = (13, refuses13 m t) ∷ (10, wrongRoot root) ∷ []
+
+-- A single walk of an address is tested as start does, with no track, then for 8.
+unfoldable pub walkConditions : List ℕ → ℕ → ℕ → List (ℕ × Bool)
+walkConditions m root a = (13, wrongMemory m) ∷ (10, wrongRoot root) ∷ (8, refuses8 (record { kind = Read; a = a; b = 1; c = 0 })) ∷ []
 
 -- A number is given only when its condition holds and none before it does.
 unfoldable pub Given : ℕ → List (ℕ × Bool) → Type 0
 Given r [] = ⊥
 Given r (x ∷ xs) = ((x .0 ≡ r) × (x .1 ≡ true)) ⊎ ((x .1 ≡ false) × Given r xs)
+
+-- ── A single walk as one number ──
+-- an entry's track word, or 0x100000000 plus a fault
+unfoldable pub translationNumber : Translation → ℕ
+translationNumber (found e) = wordOf e
+translationNumber (failed n) = 0x100000000 + n
+
+-- or 0x200000000 plus a refusal
+unfoldable pub refusedWalk : ℕ → ℕ
+refusedWalk r = 0x200000000 + r

@@ -1,9 +1,11 @@
 -- The checks that stand before an access, in their order.
 use Prim.Native.Nat.{ℕ, _+_, _*_, _/_, _%_}
+use mathlib.Core.Path.{_≡_}
 use mathlib.Core.Bool.{Bool, true, false, cond}
 use mathlib.Core.List.{List, [], _∷_}
 use lib.Dec.{eqb, leb, ltb}
 use Rattle.model.specs.Limits.{addressLimit, rowSize, rootAlignment, memoryUnit, memoryMost, contextsMost, wordLimit}
+use Rattle.model.specs.Numbers.{checkNumber}
 use Rattle.model.specs.Types.{Registers, Operation, Kind, Read, Write, Root, Asid, Mode, All, Addr, Ctx, AddrCtx, Refusal, WrongSize, WrongAddress, WrongValue, WrongRoot, WrongContext, WrongMode, WrongLengths, WrongRegisters, UserMode, Check, Pass, Refuse}
 
 -- whether n bytes can be a memory, and n words a track
@@ -130,3 +132,8 @@ startChecks m t root = (lengthsFit m t, WrongLengths) ∷ (rootFits root, WrongR
 unfoldable pub firstFailing : List (Bool × Refusal) → Check
 firstFailing [] = Pass
 firstFailing (x ∷ xs) = cond (x .0) (firstFailing xs) (Refuse (x .1))
+
+-- What code says is this check; `number` is its refusal in the numbers of the rules.
+pub record Says (y x : Check) : Type 0 where
+  pub check : x ≡ y
+  pub number : checkNumber x ≡ checkNumber y

@@ -6,6 +6,7 @@ use mathlib.Core.List.{List}
 use lib.Dec.{eqb}
 use lib.ListN.{length}
 use Rattle.model.specs.Limits.{pageSize}
+use Rattle.model.specs.Numbers.{shown}
 use Rattle.model.specs.step.Memory.{bytesOf, within, loadAt, writtenAt}
 use Rattle.model.specs.step.Walk.{walkPage}
 use Rattle.model.specs.step.Rights.{permitted}
@@ -20,9 +21,11 @@ pub record After : Type 0 where
   pub memory : List ℕ
   pub track : List ℕ
 
--- What code returns, and what it leaves in memory and track, is what an `After` says.
+-- What code returns, and what it leaves in memory and track, is what an `After` says; `shows` is the answer in the words and
+-- numbers of the rules.
 pub record Gives (y : After) (x : Returned) (m t : List ℕ) : Type 0 where
   pub answer : x .answer ≡ y .answer
+  pub shows : shown (x .answer) ≡ shown (y .answer)
   pub registers : x .registers ≡ y .registers
   pub memory : m ≡ y .memory
   pub track : t ≡ y .track

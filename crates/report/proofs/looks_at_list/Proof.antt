@@ -20,10 +20,10 @@ enum-told-2 : tie.Need-enum-told-2
 enum-told-2 c = search needs
 
 returns : tie.Need-returns
-returns c = let h = c .before .before in looked _ _ _ _ (h .before .memory-length .ensures) (h .check-start .ensures) (c .enum-told .given .1)
+returns c = let h = c .before .before in looked _ _ _ _ (h .before .memory-length .ensures) (h .check-start .ensures .check) (c .enum-told .given .1)
 
 returns-2 : tie.Need-returns-2
-returns-2 c = let h = c .before .before in looked _ _ _ _ (h .before .memory-length .ensures) (h .check-start .ensures) (c .enum-told2 .given .1)
+returns-2 c = let h = c .before .before in looked _ _ _ _ (h .before .memory-length .ensures) (h .check-start .ensures .check) (c .enum-told2 .given .1)
 
 pub looks-at-list-spec : {M : Type 1} → statement M
 looks-at-list-spec =
