@@ -1,2 +1,3 @@
 -- Laws of names.
 pub mod NameLaws
+pub mod NameCases

@@ -1,7 +1,10 @@
 -- The bytes of a list: separators, the names line, and the names of the operations, which are compared with and written.
 use Prim.Native.Nat.{ℕ}
+use mathlib.Core.Path.{_≡_}
 use mathlib.Core.Bool.{cond}
-use mathlib.Core.List.{List, [], _∷_}
+use mathlib.Core.List.{List, [], _∷_, map}
+use Rattle.text.specs.Quoted.{quoted}
+use Rattle.model.specs.Numbers.{kindNumber}
 use Rattle.text.specs.Split.{same}
 use Rattle.model.specs.declared.Kind.{Kind}
 use Rattle.model.specs.declared.Kind.the-variants.{Read, Write, Root, Asid, Mode, All, Addr, Ctx, AddrCtx}
@@ -41,3 +44,9 @@ namedIn (k ∷ ks) s = cond (same s (name k)) (Known k) (namedIn ks s)
 
 abbrev pub namedOf : List ℕ → Named
 namedOf s = namedIn kinds s
+
+-- The same in letters: the names line, and the names of the operations in the order of their numbers.
+pub record Spelled : Type 0 where
+  pub header : names ≡ quoted "op,a,b,c"
+  pub operations : map name kinds ≡ map quoted ("read" ∷ "write" ∷ "root" ∷ "asid" ∷ "mode" ∷ "all" ∷ "addr" ∷ "ctx" ∷ "addrctx" ∷ [])
+  pub numbers : map kindNumber kinds ≡ 0 ∷ 1 ∷ 2 ∷ 3 ∷ 4 ∷ 5 ∷ 6 ∷ 7 ∷ 8 ∷ []

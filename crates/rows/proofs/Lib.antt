@@ -1,2 +1,3 @@
 -- Laws of the lines of a report.
 pub mod RowLaws
+pub mod RowCases

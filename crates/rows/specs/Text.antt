@@ -1,6 +1,8 @@
 -- The text of a line of the report.
 use Prim.Native.Nat.{ℕ}
+use mathlib.Core.Path.{_≡_}
 use mathlib.Core.List.{List, [], _∷_, _++_}
+use Rattle.text.specs.Quoted.{quoted}
 use Rattle.text.specs.Hex.{hexOf}
 use Rattle.names.specs.Names.{comma, newline}
 use Rattle.model.specs.Numbers.{Result, ok, fault, refused}
@@ -35,3 +37,11 @@ rowText n op r = hexOf n ++ (comma ∷ (op ++ (comma ∷ (word r ++ (comma ∷ (
 -- how many bytes a line of the report has at most, where its operation has at most 7
 abbrev pub rowRoom : ℕ
 rowRoom = 34
+
+-- The same in letters, and two lines.
+pub record Spelled : Type 0 where
+  pub names : header ≡ quoted "line,op,answer,value\n"
+  pub words : (n : ℕ) → (word (ok n) ≡ quoted "ok") × (word (fault n) ≡ quoted "fault") × (word (refused n) ≡ quoted "refused")
+  pub row : rowText 0x1f (quoted "addrctx") (ok 0xabcdef01) ≡ quoted "1f,addrctx,ok,abcdef01\n"
+  pub lineRefused : rowText 10 noName (refused 3) ≡ quoted "a,-,refused,3\n"
+  pub startRefused : rowText 0 startName (refused 13) ≡ quoted "0,start,refused,d\n"

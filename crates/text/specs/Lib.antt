@@ -2,3 +2,4 @@
 pub mod Split
 pub mod Hex
 pub mod Put
+pub mod Quoted
