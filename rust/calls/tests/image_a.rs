@@ -7,6 +7,8 @@ const NO_CALL: u64 = 0x3_0000_0000;
 
 const READ: u32 = 0;
 const WRITE: u32 = 1;
+const ROOT: u32 = 2;
+const ASID: u32 = 3;
 const MODE: u32 = 4;
 const ALL: u32 = 5;
 const ADDR: u32 = 6;
@@ -56,6 +58,35 @@ fn the_list() {
     let mut expected = image_a();
     expected[0x404..0x408].copy_from_slice(&0x4832_u32.to_le_bytes());
     assert!(memory == expected);
+}
+
+/// Roots 0 and 0x80 map page 0 alike and page 1 differently, each with nG set: under the new context only page 1 is left at 1.
+#[test]
+fn asid_then_root() {
+    let mut memory = image_a();
+    for (at, word) in [
+        (0x400, 0x832_u32),
+        (0x80, 0x801),
+        (0x800, 0x832),
+        (0x804, 0x4832),
+    ] {
+        memory[at..at + 4].copy_from_slice(&word.to_le_bytes());
+    }
+    let mut track = vec![0; 2 * 1024];
+    let mut registers = [0; 3];
+    assert_eq!(calls::start(&memory, &mut track, 0, &mut registers), 0);
+    for operation in [[ASID, 1, 0, 0], [ROOT, 0x80, 0, 0]] {
+        let answer = calls::step(&operation, &mut registers, &mut memory, &mut track);
+        assert_eq!(answer, 0);
+    }
+    assert_eq!(registers, [0x80, 1, 0]);
+    assert_eq!(track[..2], [0x602, 0x3602]);
+    assert_eq!(track[1024..1026], [0x602, 1]);
+    for (page, answer) in [(0, 0x401), (1, REFUSAL + 16)] {
+        let read = [READ, 0x1000 * page, 4, 0];
+        let found = calls::step(&read, &mut registers, &mut memory, &mut track);
+        assert_eq!(found, answer);
+    }
 }
 
 #[test]

@@ -104,11 +104,11 @@ fn the_listing() {
     assert_eq!(programs::replay(list, Some(image)), expected.as_bytes());
 }
 
-/// Roots 0 and 0x80 map page 0 alike and page 1 differently.
+/// Roots 0 and 0x80 map page 0 alike and page 1 differently, each with nG set.
 #[test]
 fn asid_then_root() {
-    let first = [(0x0, 0x401), (0x400, 0x032), (0x404, 0x3032)];
-    let second = [(0x80, 0x801), (0x800, 0x032), (0x804, 0x4032)];
+    let first = [(0x0, 0x401), (0x400, 0x832), (0x404, 0x3832)];
+    let second = [(0x80, 0x801), (0x800, 0x832), (0x804, 0x4832)];
     let image = image(&[first, second].concat());
     let found = lines(
         &image,

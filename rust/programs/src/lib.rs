@@ -3,7 +3,7 @@ use std::path::{Path, PathBuf};
 use std::process::{Child, Command, Output};
 use std::sync::atomic::{AtomicUsize, Ordering};
 use std::thread::sleep;
-use std::time::{Duration, Instant};
+use std::time::{Duration, Instant, SystemTime};
 use std::{env, fs, process};
 
 /// The toolchain's folder: `RATTLE_HOME`, or two levels above the `rt` on PATH, links followed.
@@ -30,6 +30,29 @@ pub fn repository() -> PathBuf {
         .nth(2)
         .expect("the repository is above rust/")
         .to_path_buf()
+}
+
+/// Fails where a file of `folder` is newer than a program: the command `./replay` would prove and build it first.
+fn not_newer(folder: &Path, built: SystemTime) {
+    for entry in fs::read_dir(folder).expect("a folder") {
+        let path = entry.expect("an entry").path();
+        if path.is_dir() {
+            not_newer(&path, built);
+        } else {
+            let changed = fs::metadata(&path).and_then(|file| file.modified());
+            let old = "the program is older than its sources: run `rt check replay`";
+            assert!(changed.expect("a time") <= built, "{old}");
+        }
+    }
+}
+
+/// The command `./replay` of the repository, whose program is built.
+pub fn replay_command() -> Command {
+    let program = repository().join("target/bin/replay");
+    let built = fs::metadata(program).and_then(|file| file.modified());
+    let built = built.expect("the program is not built: run `rt check replay`");
+    not_newer(&repository().join("crates"), built);
+    Command::new(repository().join("replay"))
 }
 
 /// A built program, to be run in `folder`.

@@ -1,6 +1,6 @@
 //! The command `./replay`: only a whole report ends with status 0, 1 or 3.
 use model::generate::image_a;
-use programs::{finish, repository, Folder};
+use programs::{finish, replay_command, repository, Folder};
 use std::fs::{self, File, Permissions};
 use std::io::Write;
 use std::os::fd::OwnedFd;
@@ -14,7 +14,7 @@ const HEADER: &str = "line,op,answer,value\n";
 
 /// The command, with these arguments and nothing on standard input.
 fn command(arguments: &[&Path]) -> Command {
-    let mut command = Command::new(repository().join("replay"));
+    let mut command = replay_command();
     command.args(arguments).stdin(Stdio::null());
     command.stdout(Stdio::piped()).stderr(Stdio::piped());
     command
