@@ -1,8 +1,8 @@
 -- The reader turns a list back by the conditions of the rules: with a number exactly when its condition holds and none before it
 -- does. Assumes nothing.
 use Prim.Native.Nat.{ℕ, zero, suc, _-_, _≤_}
-use mathlib.Core.Path.{_≡_, refl, ap, ap₂, sym, _∙_}
-use mathlib.Core.Bool.{Bool, true, false, cond, not, _&&_, _||_, true≢false, and-true, or-false}
+use mathlib.Core.Path.{_≡_, refl, ap, ap₂, sym, _∙_, subst}
+use mathlib.Core.Bool.{Bool, true, false, cond, not, _&&_, _||_, and-true, or-false}
 use mathlib.Core.Logic.{_⊎_, inl, inr, _↔_}
 use mathlib.Core.List.{List, [], _∷_}
 use mathlib.Core.Option.{Option, none, some}
@@ -14,7 +14,7 @@ use Rattle.text.specs.Split.{has, until, past, same}
 use Rattle.text.specs.Hex.{digit, digits, glyph, number, lean, spelled, valueOf, spell, hexOf}
 use Rattle.text.specs.declared.Value.{Value}
 use Rattle.text.specs.declared.Value.the-variants.{Number, Misspelled}
-use Rattle.text.proofs.SplitLaws.{same-equal, same-refl, past-length}
+use Rattle.text.proofs.SplitLaws.{same-equal, same-refl, past-none, past-shorter}
 use Rattle.text.proofs.HexLaws.{value-text}
 use Rattle.names.specs.declared.Named.{Named}
 use Rattle.names.specs.declared.Named.the-variants.{Known, Nothing}
@@ -60,23 +60,6 @@ some-part b l = go (has b l) (parts-split b l)
     go : (t : Bool) → parts b l ≡ split t b l → (p : List ℕ) × (ps : List (List ℕ)) × (parts b l ≡ p ∷ ps)
     go true e = (until b l, parts b (past b l), e)
     go false e = (l, [], e)
-
-past-none : (b : ℕ) (l : List ℕ) → has b l ≡ false → past b l ≡ []
-unfolding has past
-past-none b [] h = refl
-past-none b (x ∷ xs) h = go (past-none b xs) (eqb x b) h
-  where
-    go : (has b xs ≡ false → past b xs ≡ []) → (t : Bool) → cond t true (has b xs) ≡ false → cond t xs (past b xs) ≡ []
-    go ih true e = absurd (true≢false e)
-    go ih false e = ih e
-
-past-shorter : (b x : ℕ) (xs : List ℕ) → length (past b (x ∷ xs)) ≤ length xs
-unfolding past
-past-shorter b x xs = go (eqb x b)
-  where
-    go : (t : Bool) → length (cond t xs (past b xs)) ≤ length xs
-    go true = omega arith
-    go false = past-length b xs
 
 -- ── Lines ──
 
@@ -139,6 +122,7 @@ last-field g l = go (has comma l) (parts-split comma l)
     go true e = let p = some-part comma (past comma l) in sym (ap (only g) (e ∙ ap (λ (ps : List (List ℕ)). until comma l ∷ ps) (p .2)))
     go false e = sym (ap (only g) e)
 
+-- the fields of a line are its parts at commas
 abbrev ofC : Named → Value → Value → List (List ℕ) → Line
 ofC n a b = only (λ c. judged n (valuesOf a b (valueOf c)))
 
@@ -272,29 +256,20 @@ module _ (o a b c : List ℕ) where
 
 -- an operation's own name is known, and tells which of its fields are unused
 module _ (a b c : List ℕ) where
-  own-name : (k : Kind) → refuses5 (four (name k) a b c) ≡ false
-  unfolding refuses5 any same
-  own-name Read = refl
-  own-name Write = refl
-  own-name Root = refl
-  own-name Asid = refl
-  own-name Mode = refl
-  own-name All = refl
-  own-name Addr = refl
-  own-name Ctx = refl
-  own-name AddrCtx = refl
+  abbrev Told : Kind → List ℕ → Type 0
+  Told k s = (refuses5 (four s a b c) ≡ false) × (refuses6 (four s a b c) ≡ (notZero k (four s a b c) || false))
 
-  own-fields : (k : Kind) → refuses6 (four (name k) a b c) ≡ notZero k (four (name k) a b c)
-  unfolding refuses6 any same
-  own-fields Read = or-false (notZero Read (four (name Read) a b c))
-  own-fields Write = or-false (notZero Write (four (name Write) a b c))
-  own-fields Root = or-false (notZero Root (four (name Root) a b c))
-  own-fields Asid = or-false (notZero Asid (four (name Asid) a b c))
-  own-fields Mode = or-false (notZero Mode (four (name Mode) a b c))
-  own-fields All = or-false (notZero All (four (name All) a b c))
-  own-fields Addr = or-false (notZero Addr (four (name Addr) a b c))
-  own-fields Ctx = or-false (notZero Ctx (four (name Ctx) a b c))
-  own-fields AddrCtx = or-false (notZero AddrCtx (four (name AddrCtx) a b c))
+  own-name : (k : Kind) → Told k (name k)
+  unfolding refuses5 refuses6 any same
+  own-name Read = (refl, refl)
+  own-name Write = (refl, refl)
+  own-name Root = (refl, refl)
+  own-name Asid = (refl, refl)
+  own-name Mode = (refl, refl)
+  own-name All = (refl, refl)
+  own-name Addr = (refl, refl)
+  own-name Ctx = (refl, refl)
+  own-name AddrCtx = (refl, refl)
 
 no-name : (ks : List Kind) (s : List ℕ) → namedIn ks s ≡ Nothing → any (λ k. same s (name k)) ks ≡ false
 unfolding any namedIn
@@ -332,10 +307,8 @@ module _ (o a b c : List ℕ) (va : isValue a ≡ true) (vb : isValue b ≡ true
     where
       go : (n : Named) → namedOf o ≡ n → lineNumber (judged n (Numbers (number 0 a) (number 0 b) (number 0 c))) ≡ cond (refuses5 (four o a b c)) (some 5) (cond (refuses6 (four o a b c)) (some 6) none)
       go (Known k) e =
-          let p = named-name kinds o k e in
-          let five : refuses5 (four o a b c) ≡ false = ap (λ (s : List ℕ). refuses5 (four s a b c)) p ∙ own-name a b c k in
-          let six : refuses6 (four o a b c) ≡ notZero k (four o a b c) = ap (λ (s : List ℕ). refuses6 (four s a b c)) p ∙ own-fields a b c k ∙ sym (ap (λ (s : List ℕ). notZero k (four s a b c)) p) in
-          rw (five, six) (made-number k)
+          let told : Told a b c k o = subst (Told a b c k) (sym (named-name kinds o k e)) (own-name a b c k) in
+          rw (told .0, told .1, or-false (notZero k (four o a b c))) (made-number k)
       go Nothing e = unfold refuses5 in rw (no-name kinds o e)
 
 four-number : (o a b c : List ℕ) → lineNumber (judged (namedOf o) (valuesOf (valueOf a) (valueOf b) (valueOf c))) ≡ firstHolding ((4, refuses4 (four o a b c)) ∷ (5, refuses5 (four o a b c)) ∷ (6, refuses6 (four o a b c)) ∷ [])
