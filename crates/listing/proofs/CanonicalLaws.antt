@@ -21,18 +21,19 @@ use Rattle.names.specs.declared.Named.{Named}
 use Rattle.names.specs.declared.Named.the-variants.{Known, Nothing}
 use Rattle.listing.specs.declared.Line.{Line}
 use Rattle.listing.specs.declared.Line.the-variants.{Op, Refused}
+use Rattle.listing.specs.declared.Values.the-variants.{Numbers, Wrong}
 use Rattle.listing.specs.declared.Reason.{Reason}
 use Rattle.listing.specs.declared.Reason.the-variants.{TooLong, Names, Shape, Spelling, Unknown, Unused}
 use Rattle.names.proofs.NameLaws.{name-some}
 use Rattle.names.specs.Names.{comma, newline, names, name, kinds, namedIn, namedOf}
-use Rattle.listing.specs.Line.{zeros, used, opOf, withName, withValues, fieldA, fieldB, fieldC, fieldsOf, lineOf, lineText, Valid}
-use Rattle.listing.specs.Whole.{listLimit, tooLong, hasNames, Ending, finished, stopped, Reading, stoppedAt, nothingLeft, readLine, ifEmpty, readLines, readList, Accepts, linesText, listText, AllValid, none, more, Canonical}
+use Rattle.listing.specs.Line.{zeros, used, opOf, judged, valuesOf, fieldA, fieldB, fieldC, fieldsOf, lineOf, lineText, Valid}
+use Rattle.listing.specs.Whole.{listLimit, tooLong, hasNames, Ending, finished, stopped, Reading, stoppedAt, nothingLeft, readLine, ifEmpty, readLines, readList, Accepts, linesText, listText, AllValid, noMore, more, Canonical}
 
 -- a refusal is no operation
 no-op : {r : Reason} {o : Operation} {A : Type 0} → Refused r ≡ Op o → A
 no-op h = let z : _≡_ {A = ℕ} 0 1 = cc in absurd (omega arith)
 
-named-name : (ks : List Kind) (s : List ℕ) (k : Kind) → namedIn ks s ≡ Known k → s ≡ name k
+pub named-name : (ks : List Kind) (s : List ℕ) (k : Kind) → namedIn ks s ≡ Known k → s ≡ name k
 unfolding namedIn
 named-name [] s k h = let z : _≡_ {A = ℕ} 0 1 = cc in absurd (omega arith)
 named-name (j ∷ ks) s k h = go (named-name ks s k) (same s (name j)) refl h
@@ -51,25 +52,31 @@ module _ (o : Operation) where
       go true e = cc
       go false e = no-op e
 
-  name-parts : (n : Named) (a b c : ℕ) → withName n a b c ≡ Op o → (n ≡ Known (o .kind)) × (a ≡ o .a) × (b ≡ o .b) × (c ≡ o .c)
-  unfolding withName
-  name-parts (Known k) a b c h =
+  judged-parts : (n : Named) (a b c : ℕ) → judged n (Numbers a b c) ≡ Op o → (n ≡ Known (o .kind)) × (a ≡ o .a) × (b ≡ o .b) × (c ≡ o .c)
+  unfolding judged
+  judged-parts (Known k) a b c h =
       let e = op-parts k a b c h in
       (sym (ap (λ (q : Operation). Known (q .kind)) e), sym (ap (λ (q : Operation). q .a) e), sym (ap (λ (q : Operation). q .b) e), sym (ap (λ (q : Operation). q .c) e))
-  name-parts Nothing a b c h = no-op h
+  judged-parts Nothing a b c h = no-op h
 
-  value-parts : (n : Named) (a b c : Value) → withValues n a b c ≡ Op o → (n ≡ Known (o .kind)) × (a ≡ Number (o .a)) × (b ≡ Number (o .b)) × (c ≡ Number (o .c))
-  unfolding withValues
-  value-parts n (Number a) (Number b) (Number c) h = let e = name-parts n a b c h in (e .0, ap Number (e .1), ap Number (e .2), ap Number (e .3))
-  value-parts n (Number a) (Number b) Misspelled h = no-op h
-  value-parts n (Number a) Misspelled c h = no-op h
-  value-parts n Misspelled b c h = no-op h
+  -- whatever the name, values that are spelled wrong are no operation's
+  wrong-parts : {A : Type 0} (n : Named) → judged n Wrong ≡ Op o → A
+  unfolding judged
+  wrong-parts (Known k) h = no-op h
+  wrong-parts Nothing h = no-op h
+
+  value-parts : (n : Named) (a b c : Value) → judged n (valuesOf a b c) ≡ Op o → (n ≡ Known (o .kind)) × (a ≡ Number (o .a)) × (b ≡ Number (o .b)) × (c ≡ Number (o .c))
+  unfolding valuesOf
+  value-parts n (Number a) (Number b) (Number c) h = let e = judged-parts n a b c h in (e .0, ap Number (e .1), ap Number (e .2), ap Number (e .3))
+  value-parts n (Number a) (Number b) Misspelled h = wrong-parts n h
+  value-parts n (Number a) Misspelled c h = wrong-parts n h
+  value-parts n Misspelled b c h = wrong-parts n h
 
   c-parts : (n : Named) (a b : Value) (l : List ℕ) → fieldC n a b l ≡ Op o → (n ≡ Known (o .kind)) × (a ≡ Number (o .a)) × (b ≡ Number (o .b)) × (l ≡ hexOf (o .c))
   unfolding fieldC
   c-parts n a b l h = go (has comma l) h
     where
-      go : (t : Bool) → cond t (Refused Shape) (withValues n a b (valueOf l)) ≡ Op o → (n ≡ Known (o .kind)) × (a ≡ Number (o .a)) × (b ≡ Number (o .b)) × (l ≡ hexOf (o .c))
+      go : (t : Bool) → cond t (Refused Shape) (judged n (valuesOf a b (valueOf l))) ≡ Op o → (n ≡ Known (o .kind)) × (a ≡ Number (o .a)) × (b ≡ Number (o .b)) × (l ≡ hexOf (o .c))
       go true e = no-op e
       go false e = let q = value-parts n a b (valueOf l) e in (q .0, q .1, q .2, value-text l (o .c) (q .3))
 
@@ -195,7 +202,7 @@ newline-no-digit = refl
 -- the line of an operation, and what follows it
 module _ (o : Operation) (v : Valid o) where
   text-fields : fieldsOf (name (o .kind) ++ (comma ∷ (hexOf (o .a) ++ (comma ∷ (hexOf (o .b) ++ (comma ∷ hexOf (o .c))))))) ≡ Op o
-  unfolding fieldsOf fieldA fieldB fieldC withValues withName opOf
+  unfolding fieldsOf fieldA fieldB fieldC valuesOf judged opOf
   text-fields =
       let c = hexOf (o .c) in
       let b = hexOf (o .b) ++ (comma ∷ c) in

@@ -10,7 +10,8 @@ use Rattle.model.specs.declared.Kind.{Kind}
 use Rattle.listing.specs.declared.Line.{Line}
 use Rattle.listing.specs.declared.Line.the-variants.{Op, Refused}
 use Rattle.listing.specs.declared.Reason.the-variants.{Unused}
-use Rattle.listing.specs.Line.{zeros, used, spare, opOf}
+use Rattle.listing.specs.Line.{zeros, used, spare, opOf, lineOf}
+use Rattle.listing.specs.Whole.{lineNumber}
 
 -- the unused fields
 pub op-first : (k : Kind) (a b c : ℕ) → spare (used k) 0 a ≡ false → Refused Unused ≡ opOf k a b c
@@ -35,3 +36,7 @@ was-false {t} e h = sym e ∙ not-true t h
 
 pub was-true : {t u : Bool} → t ≡ u → not t ≡ false → u ≡ true
 was-true {t} e h = sym e ∙ not-false t h
+
+-- what is equal to a line's reading has its number
+pub with-number : {r : Line} (l : List ℕ) → r ≡ lineOf l → (r ≡ lineOf l) × (lineNumber r ≡ lineNumber (lineOf l))
+with-number l e = (e, ap lineNumber e)

@@ -16,6 +16,8 @@ use Rattle.names.specs.declared.Named.{Named}
 use Rattle.names.specs.declared.Named.the-variants.{Known, Nothing}
 use Rattle.listing.specs.declared.Line.{Line}
 use Rattle.listing.specs.declared.Line.the-variants.{Op, Refused}
+use Rattle.listing.specs.declared.Values.{Values}
+use Rattle.listing.specs.declared.Values.the-variants.{Numbers, Wrong}
 use Rattle.listing.specs.declared.Reason.the-variants.{Shape, Spelling, Unknown, Unused}
 use Rattle.names.specs.Names.{comma, newline, name, namedOf}
 
@@ -43,21 +45,22 @@ zeros n a b c = cond (spare n 0 a) (cond (spare n 1 b) (spare n 2 c) false) fals
 unfoldable pub opOf : Kind → ℕ → ℕ → ℕ → Line
 opOf k a b c = cond (zeros (used k) a b c) (Op (record { kind = k; a = a; b = b; c = c })) (Refused Unused)
 
--- 5: an unknown operation
-unfoldable pub withName : Named → ℕ → ℕ → ℕ → Line
-withName (Known k) a b c = opOf k a b c
-withName Nothing a b c = Refused Unknown
+-- the values of three fields, if each of them is spelled right
+unfoldable pub valuesOf : Value → Value → Value → Values
+valuesOf (Number a) (Number b) (Number c) = Numbers a b c
+valuesOf (Number a) (Number b) Misspelled = Wrong
+valuesOf (Number a) Misspelled c = Wrong
+valuesOf Misspelled b c = Wrong
 
--- 4: a value's spelling
-unfoldable pub withValues : Named → Value → Value → Value → Line
-withValues n (Number a) (Number b) (Number c) = withName n a b c
-withValues n (Number a) (Number b) Misspelled = Refused Spelling
-withValues n (Number a) Misspelled c = Refused Spelling
-withValues n Misspelled b c = Refused Spelling
+-- 4: a value's spelling; then 5: an unknown operation
+unfoldable pub judged : Named → Values → Line
+judged n Wrong = Refused Spelling
+judged Nothing (Numbers a b c) = Refused Unknown
+judged (Known k) (Numbers a b c) = opOf k a b c
 
 -- 3: not four fields. The last field goes to the end, and has no comma
 unfoldable pub fieldC : Named → Value → Value → List ℕ → Line
-fieldC n a b l = cond (has comma l) (Refused Shape) (withValues n a b (valueOf l))
+fieldC n a b l = cond (has comma l) (Refused Shape) (judged n (valuesOf a b (valueOf l)))
 
 unfoldable pub fieldB : Named → Value → List ℕ → Line
 fieldB n a l = cond (has comma l) (fieldC n a (valueOf (until comma l)) (past comma l)) (Refused Shape)

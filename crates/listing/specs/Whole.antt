@@ -3,6 +3,7 @@ use Prim.Native.Nat.{ℕ, zero, suc, _≤_}
 use mathlib.Core.Path.{_≡_}
 use mathlib.Core.Bool.{Bool, true, false, cond}
 use mathlib.Core.List.{List, [], _∷_, _++_}
+use mathlib.Core.Option.{Option, none, some}
 use lib.Dec.{ltb}
 use lib.ListN.{length}
 use Rattle.text.specs.Split.{has, until, past, same}
@@ -23,6 +24,11 @@ listNumber Spelling = 4
 listNumber Unknown = 5
 listNumber Unused = 6
 
+-- the number of what a line says: none where it is an operation
+abbrev pub lineNumber : Line → Option ℕ
+lineNumber (Op o) = none
+lineNumber (Refused x) = some (listNumber x)
+
 -- how many bytes a list may have
 abbrev pub listLimit : ℕ
 listLimit = 65536
@@ -38,6 +44,11 @@ hasNames l = cond (has newline l) (same (until newline l) names) false
 pub data Ending : Type 0 where
   finished : Ending
   stopped : ℕ → Reason → Ending
+
+-- the line and the number of an ending: none at the end of the list
+abbrev pub endingNumber : Ending → Option (ℕ × ℕ)
+endingNumber finished = none
+endingNumber (stopped n x) = some (n, listNumber x)
 
 -- what is read of a list: the operations of its lines before the end or the refusal, and how it ends
 pub record Reading : Type 0 where
@@ -85,7 +96,7 @@ unfoldable pub listText : List Operation → List ℕ
 listText os = names ++ (newline ∷ linesText os)
 
 pub data AllValid : List Operation → Type 0 where
-  none : AllValid []
+  noMore : AllValid []
   more : {o : Operation} {os : List Operation} → Valid o → AllValid os → AllValid (o ∷ os)
 
 -- The second sentence of demand 2: two accepted lists with the same operations and field values are the same bytes, because an

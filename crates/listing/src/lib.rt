@@ -4,8 +4,8 @@ ghost use mathlib.Core.Path.{_≡_};
 ghost use Prim.Native.Nat.{_<_};
 ghost use Rattle.text.specs.Split.{past as Split·past};
 ghost use Rattle.names.specs.Names.{newline};
-ghost use Rattle.listing.specs.Line.{used as Line·used, spare as Line·spare, opOf, withName, withValues, fieldA, fieldB, fieldC, fieldsOf, lineOf};
-ghost use Rattle.listing.specs.Whole.{tooLong, hasNames, listNumber};
+ghost use Rattle.listing.specs.Line.{used as Line·used, spare as Line·spare, opOf, judged, valuesOf, fieldA, fieldB, fieldC, fieldsOf, lineOf};
+ghost use Rattle.listing.specs.Whole.{tooLong, hasNames, listNumber, lineNumber};
 use model::Kind;
 use model::Operation;
 use names::Named;
@@ -26,6 +26,12 @@ pub enum Reason {
 pub enum Line {
     Op(Operation),
     Refused(Reason),
+}
+
+// The values of the fields a, b and c: three numbers, or one or more that are spelled wrong.
+pub enum Values {
+    Numbers(u32, u32, u32),
+    Wrong,
 }
 
 // The number of a reason.
@@ -83,30 +89,33 @@ fn make(k: Kind, a: u32, b: u32, c: u32) -> Line
     Line::Op(Operation { kind: k, a, b, c })
 }
 
-// The same, if the name names one.
-fn with_name(n: Named, a: u32, b: u32, c: u32) -> Line
-    ensures { λ r. ⌜ r ≡ withName n a b c ⌝ }
-{
-    match n {
-        Named::Known(k) => make(k, a, b, c),
-        Named::Nothing => Line::Refused(Reason::Unknown),
-    }
-}
-
-// The same, if the values are spelled right.
-fn with_values(n: Named, a: Value, b: Value, c: Value) -> Line
-    ensures { λ r. ⌜ r ≡ withValues n a b c ⌝ }
+// The values of the fields a, b and c, if each of them is spelled right.
+fn all_values(a: Value, b: Value, c: Value) -> Values
+    ensures { λ r. ⌜ r ≡ valuesOf a b c ⌝ }
 {
     let Value::Number(x) = a else {
-        return Line::Refused(Reason::Spelling);
+        return Values::Wrong;
     };
     let Value::Number(y) = b else {
-        return Line::Refused(Reason::Spelling);
+        return Values::Wrong;
     };
     let Value::Number(z) = c else {
+        return Values::Wrong;
+    };
+    Values::Numbers(x, y, z)
+}
+
+// An operation with its fields, if the values are spelled right and the name names one.
+fn judge(n: Named, v: Values) -> Line
+    ensures { λ r. ⌜ r ≡ judged n v ⌝ }
+{
+    let Values::Numbers(a, b, c) = v else {
         return Line::Refused(Reason::Spelling);
     };
-    with_name(n, x, y, z)
+    let Named::Known(k) = n else {
+        return Line::Refused(Reason::Unknown);
+    };
+    make(k, a, b, c)
 }
 
 // The last field is all of `l`, which has no comma; the value of b, of a and the name stand before it.
@@ -116,7 +125,7 @@ fn field_c(n: Named, a: Value, b: Value, l: &[u8]) -> Line
     if text::has(l, b',') {
         return Line::Refused(Reason::Shape);
     }
-    with_values(n, a, b, text::read_value(l))
+    judge(n, all_values(a, b, text::read_value(l)))
 }
 
 // The field b, up to a comma, and the last one.
@@ -160,7 +169,7 @@ fn fields(l: &[u8]) -> Line
 
 // Reads the first line of what is left of a list.
 pub fn read_line(list: &[u8]) -> Line
-    ensures { λ r. ⌜ r ≡ lineOf (now (list .entry)) ⌝ }
+    ensures { λ r. ⌜ (r ≡ lineOf (now (list .entry))) × (lineNumber r ≡ lineNumber (lineOf (now (list .entry)))) ⌝ }
 {
     if !text::has(list, b'\n') {
         return Line::Refused(Reason::Shape);

@@ -152,3 +152,21 @@ past-length b (x ∷ xs) = go (past-length b xs) (eqb x b)
     go : length (past b xs) ≤ length xs → (t : Bool) → length (cond t xs (past b xs)) ≤ suc (length xs)
     go ih true = omega arith
     go ih false = omega arith
+
+-- what stands after the first b is shorter than a list that is not empty, and nothing where there is no b
+pub past-shorter : (b x : ℕ) (xs : List ℕ) → length (past b (x ∷ xs)) ≤ length xs
+unfolding past
+past-shorter b x xs = go (eqb x b)
+  where
+    go : (t : Bool) → length (cond t xs (past b xs)) ≤ length xs
+    go true = omega arith
+    go false = past-length b xs
+
+pub past-none : (b : ℕ) (l : List ℕ) → has b l ≡ false → past b l ≡ []
+unfolding has past
+past-none b [] h = refl
+past-none b (x ∷ xs) h = go (past-none b xs) (eqb x b) h
+  where
+    go : (has b xs ≡ false → past b xs ≡ []) → (t : Bool) → cond t true (has b xs) ≡ false → cond t xs (past b xs) ≡ []
+    go ih true e = absurd (true≢false e)
+    go ih false e = ih e

@@ -4,7 +4,7 @@ use denote.Ref.{now}
 use Rattle.text.specs.Split.{has}
 use Rattle.names.specs.Names.{newline}
 use Rattle.listing.specs.Line.{lineOf}
-use Rattle.listing.proofs.LineLaws.{was-true, was-false}
+use Rattle.listing.proofs.LineLaws.{was-true, was-false, with-number}
 use borrow.Author.Needs.{needs}
 use Rattle.listing.proofs.read_line.Statement.{statement}
 use Rattle.listing.proofs.read_line.Tie as tie
@@ -21,7 +21,7 @@ returns : tie.Need-returns
 unfolding lineOf
 returns c =
     let h : has newline (now (c .before .before .before .args .list)) ≡ false = was-false (c .before .has .ensures) (c .if1 .taken) in
-    rw h
+    with-number (now (c .before .before .before .args .list)) (rw h)
 
 until-requires : tie.Need-until-requires
 until-requires c κs = search needs
@@ -33,7 +33,7 @@ returns-2 : tie.Need-returns-2
 unfolding lineOf
 returns-2 c =
     let h : has newline (now (c .before .before .before .before .before .args .list)) ≡ true = was-true (c .before .before .before .has .ensures) (c .before .before .if1 .left) in
-    rw h cc
+    with-number (now (c .before .before .before .before .before .args .list)) (rw h cc)
 
 pub read-line-spec : {M : Type 1} → statement M
 read-line-spec = tie.close (tie.spec has-requires returns until-requires fields-requires returns-2)

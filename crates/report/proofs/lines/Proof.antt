@@ -73,7 +73,7 @@ returns c =
     let x = n .before .before .before in
     let r = x .before .before in
     let l = r .before .before in
-    running-refused (l .loop .inv .0) (x .x .given .0 .0) (w .put-refusal .last .0) (w .put-refusal .result) (r .before .loop-test .taken) (sym (r .read-line .ensures) ∙ x .x .given .1)
+    running-refused (l .loop .inv .0) (x .x .given .0 .0) (w .put-refusal .last .0) (w .put-refusal .result) (r .before .loop-test .taken) (sym (r .read-line .ensures .0) ∙ x .x .given .1)
     (rw (sym (n .list-number .ensures .0)) (w .put-refusal .ensures))
 
 rest-requires : tie.Need-rest-requires Inv-loop μ-loop
@@ -87,7 +87,7 @@ abbrev op : tie.After-rest Inv-loop μ-loop → Operation
 op c = c .before .before .before .before .before .before .before .before .before .before .before .before .before .before .o .given .0 .0
 
 op-line : (c : tie.After-rest Inv-loop μ-loop) → lineOf (now (c .before .before .before .before .before .before .before .before .before .before .before .before .before .before .before .before .before .before .loop .left)) ≡ Op (op c)
-op-line c = let o = c .before .before .before .before .before .before .before .before .before .before .before .before .before .before in sym (o .before .before .read-line .ensures) ∙ o .o .given .1
+op-line c = let o = c .before .before .before .before .before .before .before .before .before .before .before .before .before .before in sym (o .before .before .read-line .ensures .0) ∙ o .o .given .1
 
 loop-less : tie.Need-loop-less Inv-loop μ-loop
 loop-less c = omega (arith, ap length (c .rest .ensures), line-rest (op c) (now (c .before .before .before .before .before .before .before .before .before .before .before .before .before .before .before .before .before .before .loop .left)) (op-line c))
