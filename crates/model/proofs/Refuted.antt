@@ -19,7 +19,7 @@ use Rattle.model.specs.step.Checks.{isSize, sizeFits, firstFailing}
 use Rattle.model.specs.step.Machine.{After, started, stepped}
 use Rattle.model.specs.Demands.{Call, after}
 use Rattle.model.specs.Invisible.{Session, begun, Accepted, checked, toldOf, chipStartOf, chipRunOf, plainEnd, atEnd, alignedAccess, CouldDiffer, Same, Exactly, Invisible, checker}
-use Rattle.model.specs.Wrong.{SameBegins, SamePlain, SameChip, StaleOnlyThen, StaleAlwaysThen, SaysStaleAtOnce, Orderly, Copies, GoesByTrack, AlikeBut, LooksElsewhere}
+use Rattle.model.specs.Wrong.{SameBegins, SamePlain, SameChip, StaleOnlyThen, StaleAlwaysThen, SaysStaleAtOnce, Orderly, Copies, NeverStale, GoesByTrack, AlikeBut, LooksElsewhere}
 use Rattle.model.specs.Types.{Registers, Operation, Kind, Read, Write, Root, Asid, Mode, All as AllSets, Addr, Ctx, AddrCtx, Entry, Pass}
 use Rattle.model.proofs.Tests.{and-both, three-or}
 use Rattle.model.proofs.Calls.{firstHolding, given-first, none-some, not-refused, exactly, start-exactly, start-words, track-length, start-track-length, size-passed, checksOf, Begun, begun as begunBy, back as turned, done as noted-then}
@@ -201,6 +201,18 @@ long = refl
 unfoldable pub session : ℕ → List Operation → Session
 session root os = record { image = image; track = track0; root = root; operations = os }
 
+free0 : firstHolding (startConditions image track0 0) ≡ none
+free0 = start-free track0 long .0
+
+free80 : firstHolding (startConditions image track0 0x80) ≡ none
+free80 = start-free track0 long .1
+
+-- an orderly checker accepts a start that no condition turns back
+start-accepted : (m : Checker) → Orderly m → (root : ℕ) → firstHolding (startConditions image track0 root) ≡ none → (os : List Operation) → Accepted m (session root os)
+unfolding session
+start-accepted m ord root free os =
+    not-refused-is (shown (m .start image track0 root .answer)) (λ r q. no-given (startConditions image track0 root) r free (ord .starts image track0 root r q))
+
 -- ── The chip reads by an entry that the tables no longer give ──
 
 -- root 0x80, root 0, a read of page 2, all carried out
@@ -227,12 +239,6 @@ faults-reads : _≡_ {A = Option Result} (some (fault 2)) (some (ok 7)) → ⊥
 faults-reads q = let z : _≡_ {A = Bool} true false = cc in true≢false z
 
 module _ (m : Checker) (ord : Orderly m) (start : SameBegins m) (plain : SamePlain m) where
-  -- a start that no condition turns back is accepted
-  accepts : (root : ℕ) → firstHolding (startConditions image track0 root) ≡ none → (os : List Operation) → Accepted m (session root os)
-  unfolding session
-  accepts root free os =
-      not-refused-is (shown (m .start image track0 root .answer)) (λ r q. no-given (startConditions image track0 root) r free (ord .starts image track0 root r q))
-
   -- an operation on this state, with a track of this length
   record Handed (x : After) (root : ℕ) : Type 0 where
     state : stateOf x ≡ at root
@@ -241,7 +247,7 @@ module _ (m : Checker) (ord : Orderly m) (start : SameBegins m) (plain : SamePla
   begins : (root : ℕ) → firstHolding (startConditions image track0 root) ≡ none → Handed (m .start image track0 root) root
   unfolding session fresh at
   begins root free = record {
-    state = start (session root []) (accepts root free []);
+    state = start (session root []) (start-accepted m ord root free []);
     long-track = ord .startLength image track0 root ∙ long;
   }
 
@@ -289,9 +295,6 @@ module _ (m : Checker) (ord : Orderly m) (start : SameBegins m) (plain : SamePla
 
   -- ── To root 0x80 and back to 0 ──
 
-  free0 : firstHolding (startConditions image track0 0) ≡ none
-  free0 = start-free track0 long .0
-
   begin : Handed (m .start image track0 0) 0
   begin = begins 0 free0
 
@@ -304,7 +307,7 @@ module _ (m : Checker) (ord : Orderly m) (start : SameBegins m) (plain : SamePla
 
   between : Handed (next m (toRoot 0x80) (m .start image track0 0)) 0x80
   between = record {
-    state = one-changed 0 0x80 (accepts 0 free0 (toRoot 0x80 ∷ [])) first-told;
+    state = one-changed 0 0x80 (start-accepted m ord 0 free0 (toRoot 0x80 ∷ [])) first-told;
     long-track = ord .stepLength (toRoot 0x80) _ _ _ ∙ begin .long-track;
   }
 
@@ -323,7 +326,7 @@ module _ (m : Checker) (ord : Orderly m) (start : SameBegins m) (plain : SamePla
   back-state =
       sym
       (ap (λ l. headState (tailOf (plainRun (fresh image 0) l))) (sym both-told)
-      ∙ ap (λ l. headState (tailOf l)) (plain (session 0 both) (accepts 0 free0 both))
+      ∙ ap (λ l. headState (tailOf l)) (plain (session 0 both) (start-accepted m ord 0 free0 both))
       ∙ (unfold headState tailOf checkerRun seen in refl))
       ∙ (unfold headState tailOf plainRun plainStep carriedOut effect setRegisters fresh at toRoot in refl)
 
@@ -348,9 +351,26 @@ module _ (m : Checker) (ord : Orderly m) (start : SameBegins m) (plain : SamePla
           ∙ by .says16 readPage2 (x .registers) (x .memory) (x .track) (q ∙ ap refused (only-16 x back r q))
 
       word : trackWord (m .start image track0 0 .track) 0 2 ≡ 0
-      word = unfold session in by .unmapped (session 0 []) (accepts 0 free0 []) 2 2 (omega arith) page2-unmapped
+      word = unfold session in by .unmapped (session 0 []) (start-accepted m ord 0 free0 []) 2 2 (omega arith) page2-unmapped
 
   -- ── What the second half says of it ──
+
+  module _ (always : StaleAlwaysThen m) where
+    -- where some TLB could hold the entry of page 2, the read is refused as stale
+    is-stale : (root : ℕ) (os : List Operation) (first : List Move) (script : ℕ → List Move) (l : List (Operation × Bool)) →
+        Accepted m (session root os) → toldOf m (session root os) ≡ l → Differs root first script l → Handed (atEnd m (session root os)) 0 →
+        shown (next m readPage2 (atEnd m (session root os)) .answer) ≡ refused 16
+    unfolding session
+    is-stale root os first script l acc e d h =
+        let y = subst (Differs root first script) (sym e) d in
+        always (session root os) acc readPage2 (unfold alignedAccess among aligned readPage2 in refl) (only-16 (atEnd m (session root os)) h)
+        (record { places = 0; first = first; script = script; entry = entry2; held = y .0; other = y .1 })
+
+    -- as it is after root 0x80 and back
+    stale-back : shown (next m readPage2 (next m (toRoot 0) (next m (toRoot 0x80) (m .start image track0 0))) .answer) ≡ refused 16
+    unfolding session checkerRun last both
+    stale-back =
+        is-stale 0 both [] afterFirst ((toRoot 0x80, false) ∷ (toRoot 0, false) ∷ []) (start-accepted m ord 0 free0 both) both-told loaded-between back
 
   module _ (exact : Exactly m) where
     -- directly after the start with root 0 the read is not refused as stale
@@ -360,27 +380,14 @@ module _ (m : Checker) (ord : Orderly m) (start : SameBegins m) (plain : SamePla
       session = session 0 [];
       operation = readPage2;
       nothingBefore = refl;
-      accepted = accepts 0 (start-free track0 long .0) [];
+      accepted = start-accepted m ord 0 free0 [];
       access = unfold alignedAccess among aligned readPage2 in refl;
       says16 = q;
     }) (only-then m exact)
 
-    -- then the read is refused as stale
-    is-stale : (root : ℕ) (os : List Operation) (first : List Move) (script : ℕ → List Move) (l : List (Operation × Bool)) →
-        Accepted m (session root os) → toldOf m (session root os) ≡ l → Differs root first script l → Handed (atEnd m (session root os)) 0 →
-        shown (next m readPage2 (atEnd m (session root os)) .answer) ≡ refused 16
-    unfolding session
-    is-stale root os first script l acc e d h =
-        let y = subst (Differs root first script) (sym e) d in
-        always-then m exact (session root os) acc readPage2 (unfold alignedAccess among aligned readPage2 in refl) (only-16 (atEnd m (session root os)) h)
-        (record { places = 0; first = first; script = script; entry = entry2; held = y .0; other = y .1 })
-
     -- ── It looks for stale entries in other rows ──
 
     module _ (w : LooksElsewhere m) where
-      free80 : firstHolding (startConditions image track0 0x80) ≡ none
-      free80 = start-free track0 long .1
-
       at-begin : Handed (m .start image track0 0x80) 0x80
       at-begin = begins 0x80 free80
 
@@ -393,19 +400,19 @@ module _ (m : Checker) (ord : Orderly m) (start : SameBegins m) (plain : SamePla
 
       after-one : Handed (next m (toRoot 0) (m .start image track0 0x80)) 0
       after-one = record {
-        state = one-changed 0x80 0 (accepts 0x80 free80 (toRoot 0 ∷ [])) told-one;
+        state = one-changed 0x80 0 (start-accepted m ord 0x80 free80 (toRoot 0 ∷ [])) told-one;
         long-track = ord .stepLength (toRoot 0) _ _ _ ∙ at-begin .long-track;
       }
 
       stale-then : shown (next m readPage2 (next m (toRoot 0) (m .start image track0 0x80)) .answer) ≡ refused 16
       unfolding session checkerRun last
       stale-then =
-          is-stale 0x80 (toRoot 0 ∷ []) (load 0 2 ∷ []) (λ i. []) ((toRoot 0, false) ∷ []) (accepts 0x80 free80 (toRoot 0 ∷ [])) told-one loaded-first after-one
+          is-stale (always-then m exact) 0x80 (toRoot 0 ∷ []) (load 0 2 ∷ []) (λ i. []) ((toRoot 0, false) ∷ []) (start-accepted m ord 0x80 free80 (toRoot 0 ∷ [])) told-one loaded-first after-one
 
       -- the same read directly after a start with root 0, on a track that differs at most in the row of context 0
       alike : AlikeBut 0 (next m (toRoot 0) (m .start image track0 0x80) .track) (m .start image track0 0 .track)
       alike = record {
-        lengths = after-one .long-track ∙ sym (begins 0 (start-free track0 long .0) .long-track);
+        lengths = after-one .long-track ∙ sym (begins 0 free0 .long-track);
         others = λ c p n q.
             subst (λ (s : State). (c ≡ s .registers .context → ⊥) → trackWord (next m (toRoot 0) (m .start image track0 0x80) .track) c p ≡ trackWord (m .start image track0 0x80 .track) c p)
             (at-begin .state) (λ k. unfold toRoot in w .rootOthers 0 _ _ _ c p k q) (unfold at in n)
@@ -415,23 +422,18 @@ module _ (m : Checker) (ord : Orderly m) (start : SameBegins m) (plain : SamePla
 
       elsewhere-refuted : ⊥
       elsewhere-refuted = not-at-once
-          (ap (λ (s : State). shown (m .step readPage2 (s .registers) (s .memory) (m .start image track0 0 .track) .answer)) (begins 0 (start-free track0 long .0) .state)
+          (ap (λ (s : State). shown (m .step readPage2 (s .registers) (s .memory) (m .start image track0 0 .track) .answer)) (begins 0 free0 .state)
           ∙ sym (ap shown (w .blind readPage2 (at 0 .registers) (at 0 .memory) (next m (toRoot 0) (m .start image track0 0x80) .track) (m .start image track0 0 .track) (unfold at in alike)))
           ∙ ap (λ (s : State). shown (m .step readPage2 (s .registers) (s .memory) (next m (toRoot 0) (m .start image track0 0x80) .track) .answer)) (sym (after-one .state))
           ∙ stale-then)
 
     -- ── It copies the track ──
 
-    stale-back : shown (next m readPage2 (next m (toRoot 0) (next m (toRoot 0x80) (m .start image track0 0))) .answer) ≡ refused 16
-    unfolding session checkerRun last both
-    stale-back =
-        is-stale 0 both [] afterFirst ((toRoot 0x80, false) ∷ (toRoot 0, false) ∷ []) (accepts 0 free0 both) both-told loaded-between back
-
     copy-refuted : Copies m → ⊥
     copy-refuted w = not-at-once
         (ap (λ (s : State). shown (m .step readPage2 (s .registers) (s .memory) (m .start image track0 0 .track) .answer)) (begin .state)
         ∙ ap₂ (λ (s : State) (t : List ℕ). shown (m .step readPage2 (s .registers) (s .memory) t .answer)) (sym back-state) (sym (copied w))
-        ∙ stale-back)
+        ∙ stale-back (always-then m exact))
 
 -- ── It copies the track: refuted by the chip alone ──
 
@@ -452,12 +454,15 @@ no-copying-chip m ord by w agrees =
     all = session 0 (toRoot 0x80 ∷ toRoot 0 ∷ readPage2 ∷ [])
 
     acc : Accepted m all
-    acc = accepts m ord (by .begins) plain 0 (free0 m ord (by .begins) plain) (toRoot 0x80 ∷ toRoot 0 ∷ readPage2 ∷ [])
+    acc = start-accepted m ord 0 free0 (toRoot 0x80 ∷ toRoot 0 ∷ readPage2 ∷ [])
 
     told-all : toldOf m all ≡ readAfter
     told-all = λ i. (toRoot 0x80, first-done m ord (by .begins) plain i) ∷ (toRoot 0, second-done m ord (by .begins) plain i) ∷ (readPage2, read-done m ord (by .begins) plain w by i) ∷ []
 
--- ── The second half ──
+-- ── By the second half ──
+
+pub no-never-stale : (m : Checker) → Orderly m → SameBegins m → SamePlain m → NeverStale m → StaleAlwaysThen m → ⊥
+no-never-stale m ord begins plain never always = never readPage2 _ _ _ (stale-back m ord begins plain always)
 
 pub no-looking-elsewhere : (m : Checker) → Orderly m → Invisible m → LooksElsewhere m → ⊥
 no-looking-elsewhere m ord inv w =

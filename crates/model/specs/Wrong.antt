@@ -58,6 +58,10 @@ pub record Orderly (m : Checker) : Type 0 where
 abbrev pub Copies : Checker → Type 0
 Copies m = (o : Operation) (g : Registers) (i t : List ℕ) → m .step o g i t .track ≡ t
 
+-- It never says 16.
+abbrev pub NeverStale : Checker → Type 0
+NeverStale m = (o : Operation) (g : Registers) (i t : List ℕ) → shown (m .step o g i t .answer) ≡ refused 16 → ⊥
+
 -- It goes by the track: it says 16 only where the track that it is lent makes the page stale, and its accepted start returns what the
 -- rules say and leaves empty, in context 0, the word of every page that the tables do not map.
 pub record GoesByTrack (m : Checker) : Type 0 where
