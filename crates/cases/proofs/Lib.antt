@@ -4,3 +4,4 @@ pub mod CaseTools
 pub mod PaperCases
 pub mod WiderCases
 pub mod Witness
+pub mod WrongCheckers

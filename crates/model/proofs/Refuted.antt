@@ -500,7 +500,7 @@ aligned-16 x q =
     let kinds = and-both (among (x .operation .kind) (Read ∷ Write ∷ [])) (aligned (x .operation .a) (x .operation .b)) (all .0) in
     ap₂ _&&_ (ap₂ _&&_ (kinds .0) (named-size (x .operation .kind) (x .operation .b) (kinds .0) (size-passed x pass))) (kinds .1)
 
-abbrev call : Operation → Registers → List ℕ → List ℕ → Call
+abbrev pub call : Operation → Registers → List ℕ → List ℕ → Call
 call o g i t = record { operation = o; registers = g; memory = i; track = t }
 
 pub orderly : Orderly checker
