@@ -1,8 +1,8 @@
--- Wrong checkers made of this project's, one for each part of the third demand, each refuted by that part alone. The one for the
--- chip, which copies the track, stands with the laws: `copying-not-chip`.
+-- Wrong checkers made of this project's, one for each part of the third demand, each refuted by that part alone. What refutes the
+-- copying one stands with the laws of the model: `copying-not-chip`.
 use Prim.Native.Nat.{ℕ, zero, suc, _+_, _*_, _/_}
 use mathlib.Core.Path.{_≡_, refl, sym, ap, ap₂, _∙_, subst}
-use mathlib.Core.Logic.{_⊎_, inl, inr}
+use mathlib.Core.Logic.{inl, inr}
 use mathlib.Core.Bool.{Bool, true, false, cond, _&&_, true≢false}
 use mathlib.Core.Option.{Option, none, some}
 use mathlib.Core.List.{List, [], _∷_, _++_, map}
@@ -10,10 +10,11 @@ use native.Mathlib.Omega.{arith}
 use lib.ListN.{length, getD, replicate, length-replicate}
 use Rattle.model.specs.Limits.{pageSize, rowSize}
 use Rattle.model.specs.Numbers.{Result, ok, fault, refused, shown}
-use Rattle.model.specs.reference.Rules.{State, fresh, outcome, carriedOut, plainStep, walk, descriptor, tableWord, section, bits, value, inMemory, effect, access, translated, touched, aligned, allows, rightOf, physical, among, trackWord, stale, kept, differs, contexts, conditions, Given, refuses13, refuses14, refuses16}
+use Rattle.model.specs.reference.Rules.{State, fresh, outcome, carriedOut, plainStep, walk, descriptor, tableWord, section, bits, value, inMemory, effect, access, translated, touched, aligned, allows, rightOf, physical, among, trackWord, stale, kept, differs, conditions, Given, refuses16}
 use Rattle.model.specs.reference.Runs.{Checker, next, checkerRun, isRefused, seen, told, plainRun}
+use Rattle.model.specs.step.Checks.{checks}
 use Rattle.model.specs.step.Machine.{After, turnedBack, started, stepped}
-use Rattle.model.specs.Invisible.{Session, Accepted, checked, toldOf, plainRunOf, alignedAccess, Same, Exactly, checker}
+use Rattle.model.specs.Invisible.{Session, Accepted, checked, toldOf, plainRunOf, alignedAccess, checker}
 use Rattle.model.specs.Wrong.{SameBegins, SamePlain, StaleOnlyThen, StaleAlwaysThen, SaysStaleAtOnce, Orderly, NeverStale}
 use Rattle.model.specs.declared.Kind.the-variants.{Read, Write}
 use Rattle.model.specs.declared.Registers.{Registers}
@@ -21,13 +22,53 @@ use Rattle.model.specs.declared.Operation.{Operation}
 use Rattle.model.specs.declared.Answer.{Answer}
 use Rattle.model.specs.declared.Answer.the-variants.{Done, Faulted, Refused}
 use Rattle.model.specs.declared.Refusal.the-variants.{StalePage}
-use Rattle.model.specs.step.Checks.{checks}
-use Rattle.model.specs.Demands.{Call, visible}
 use Rattle.model.proofs.Tests.{and-both}
 use Rattle.model.proofs.Checks.{asConditions, staleCondition, checks-same}
 use Rattle.model.proofs.Calls.{not-refused, exactly, plain, unchanged}
-use Rattle.model.proofs.Refuted.{image, readPage2, track0, session, no-stale-at-once, no-never-stale, orderly, by-track, call}
+use Rattle.model.proofs.Refuted.{image, readPage2, track0, session, no-user-start, no-stale-at-once, no-never-stale, orderly, by-track, call, copying, copyingStep}
 use Rattle.cases.proofs.CaseTools.{next as stepOn}
+
+-- ── What agrees with the plain machine in each step agrees with it in each run ──
+
+abbrev stateOf : List ℕ → Registers → State
+stateOf i g = record { memory = i; registers = g }
+
+-- each step does what the plain machine does, told whether it was refused
+abbrev StepsPlain : Checker → Type 0
+StepsPlain m = (o : Operation) (g : Registers) (i t : List ℕ) → plainStep o (isRefused (shown (m .step o g i t .answer))) (stateOf i g) ≡ seen (m .step o g i t)
+
+-- each step of this project's checker does, on any track
+step-plain : StepsPlain checker
+unfolding plainStep seen isRefused
+step-plain o g i t = by (shown (y .answer)) refl
+  where
+    y : After
+    y = stepped o g i t
+
+    left : State
+    left = stateOf (y .memory) (y .registers)
+
+    does : (x : Result) → shown (y .answer) ≡ x → isRefused x ≡ false → carriedOut o (stateOf i g) ≡ (x, left)
+    does x e f =
+        sym (plain (call o g i t) (λ r p. not-refused (shown (y .answer)) r (ap isRefused e ∙ f) (exactly (call o g i t) r .1 p)))
+        ∙ (λ k. (e k, left))
+
+    by : (x : Result) → shown (y .answer) ≡ x → plainStep o (isRefused x) (stateOf i g) ≡ (cond (isRefused x) none (some x), left)
+    by (ok v) e = ap (λ (z : Result × State). (some (z .0), z .1)) (does (ok v) e refl)
+    by (fault n) e = ap (λ (z : Result × State). (some (z .0), z .1)) (does (fault n) e refl)
+    by (refused r) e = let u = unchanged (call o g i t) r e in λ k. (none, stateOf (sym (u .memory) k) (sym (u .registers) k))
+
+run-plain : (m : Checker) → StepsPlain m → (x : After) (os : List Operation) → plainRun (stateOf (x .memory) (x .registers)) (told m x os) ≡ map seen (checkerRun m x os)
+unfolding plainRun told checkerRun seen
+run-plain m h x [] = refl
+run-plain m h x (o ∷ os) =
+    let e = h o (x .registers) (x .memory) (x .track) in
+    ap₂ _∷_ e (ap (λ (y : Option Result × State). plainRun (y .1) (told m (next m o x) os)) e ∙ run-plain m h (next m o x) os)
+
+started-plain : (step : Operation → Registers → List ℕ → List ℕ → After) → StepsPlain (record { start = started; step = step }) → SamePlain (record { start = started; step = step })
+started-plain step h x acc =
+    ap (λ (s : State). plainRun s (toldOf (record { start = started; step = step }) x)) (sym (by-track .begins x acc))
+    ∙ run-plain (record { start = started; step = step }) h (started (x .image) (x .track) (x .root)) (x .operations)
 
 -- ── `Same .begins`: its start returns user mode ──
 
@@ -42,13 +83,19 @@ userStart = record { start = λ i t root. inUserMode (started i t root); step = 
       track = x .track;
     }
 
-user-accepted : Accepted userStart (session 0 [])
-unfolding userStart session image track0 isRefused stepOn
-user-accepted = refl
+user-orderly : Orderly userStart
+unfolding userStart
+user-orderly = record {
+  starts = orderly .starts;
+  steps = orderly .steps;
+  only16 = orderly .only16;
+  startLength = orderly .startLength;
+  stepLength = orderly .stepLength;
+}
 
-pub no-user-start : SameBegins userStart → ⊥
-unfolding userStart fresh
-no-user-start begins = let e : _≡_ {A = ℕ} 1 0 = ap (λ (s : State). s .registers .mode) (begins (session 0 []) user-accepted) in omega arith
+pub user-start-refuted : SameBegins userStart → ⊥
+unfolding userStart
+user-start-refuted begins = no-user-start userStart user-orderly (λ i t root. refl) begins
 
 -- ── `Same .plain`: it answers 0 to every read that it carries out ──
 
@@ -83,11 +130,21 @@ seven-read : headAnswer (plainRunOf readsZero readOnce) ≡ some (ok 7)
 unfolding readsZero readOnce headAnswer session image track0 readPage2 told isRefused stepOn plainRun plainStep carriedOut effect access translated touched aligned allows rightOf physical fresh outcome walk descriptor tableWord section bits value inMemory
 seven-read = refl
 
-pub no-reading-zero : SamePlain readsZero → ⊥
-no-reading-zero plain = zero-seven (sym zero-read ∙ ap headAnswer (sym (plain readOnce zero-accepted)) ∙ seven-read)
+pub reads-zero-refuted : SamePlain readsZero → ⊥
+reads-zero-refuted plain = zero-seven (sym zero-read ∙ ap headAnswer (sym (plain readOnce zero-accepted)) ∙ seven-read)
   where
     zero-seven : _≡_ {A = Option Result} (some (ok 0)) (some (ok 7)) → ⊥
     zero-seven q = let z : _≡_ {A = ℕ} 0 7 = cc in omega arith
+
+-- ── `Same .chip`: it copies the track, and `copying-not-chip` refutes it; the other two fields hold of it ──
+
+pub copying-begins : SameBegins copying
+unfolding copying
+copying-begins = by-track .begins
+
+pub copying-plain : SamePlain copying
+unfolding copying copyingStep seen
+copying-plain = started-plain copyingStep step-plain
 
 -- ── `Exactly .stale`, 16 only where a TLB could differ: it says 16 at every aligned access ──
 
@@ -98,8 +155,8 @@ says-at-once : SaysStaleAtOnce alwaysStale
 unfolding alwaysStale session image track0 readPage2 isRefused stepOn alignedAccess among aligned
 says-at-once = record { session = session 0 []; operation = readPage2; nothingBefore = refl; accepted = refl; access = refl; says16 = refl }
 
-pub no-always-stale : StaleOnlyThen alwaysStale → ⊥
-no-always-stale then = no-stale-at-once alwaysStale says-at-once then
+pub always-stale-refuted : StaleOnlyThen alwaysStale → ⊥
+always-stale-refuted then = no-stale-at-once alwaysStale says-at-once then
 
 -- ── `Exactly .stale`, 16 wherever a TLB could differ: it empties the track before each operation, and so never says 16 ──
 
@@ -149,46 +206,10 @@ forgetful-orderly = record {
   stepLength = λ o g i t. orderly .stepLength o g i (emptied t) ∙ emptied-length t;
 }
 
--- ── Its runs are those of the plain machine ──
-
-abbrev stateOf : List ℕ → Registers → State
-stateOf i g = record { memory = i; registers = g }
-
--- each step does what the plain machine does, told whether it was refused, whatever the track
-step-plain : (o : Operation) (g : Registers) (i t : List ℕ) → plainStep o (isRefused (shown (stepped o g i t .answer))) (stateOf i g) ≡ seen (stepped o g i t)
-unfolding plainStep seen isRefused
-step-plain o g i t = by (shown (y .answer)) refl
-  where
-    y : After
-    y = stepped o g i t
-
-    left : State
-    left = stateOf (y .memory) (y .registers)
-
-    does : (x : Result) → shown (y .answer) ≡ x → isRefused x ≡ false → carriedOut o (stateOf i g) ≡ (x, left)
-    does x e f =
-        sym (plain (call o g i t) (λ r p. not-refused (shown (y .answer)) r (ap isRefused e ∙ f) (exactly (call o g i t) r .1 p)))
-        ∙ (λ k. (e k, left))
-
-    by : (x : Result) → shown (y .answer) ≡ x → plainStep o (isRefused x) (stateOf i g) ≡ (cond (isRefused x) none (some x), left)
-    by (ok v) e = ap (λ (z : Result × State). (some (z .0), z .1)) (does (ok v) e refl)
-    by (fault n) e = ap (λ (z : Result × State). (some (z .0), z .1)) (does (fault n) e refl)
-    by (refused r) e = let u = unchanged (call o g i t) r e in λ k. (none, stateOf (sym (u .memory) k) (sym (u .registers) k))
-
-run-plain : (m : Checker) → ((o : Operation) (g : Registers) (i t : List ℕ) → plainStep o (isRefused (shown (m .step o g i t .answer))) (stateOf i g) ≡ seen (m .step o g i t)) →
-    (x : After) (os : List Operation) → plainRun (stateOf (x .memory) (x .registers)) (told m x os) ≡ map seen (checkerRun m x os)
-unfolding plainRun told checkerRun seen
-run-plain m h x [] = refl
-run-plain m h x (o ∷ os) =
-    let e = h o (x .registers) (x .memory) (x .track) in
-    ap₂ _∷_ e (ap (λ (y : Option Result × State). plainRun (y .1) (told m (next m o x) os)) e ∙ run-plain m h (next m o x) os)
-
 pub forgetful-plain : SamePlain forgetful
 unfolding forgetful
-forgetful-plain x acc =
-    ap (λ (s : State). plainRun s (toldOf forgetful x)) (sym (by-track .begins x acc))
-    ∙ run-plain forgetful (λ o g i t. step-plain o g i (emptied t)) (started (x .image) (x .track) (x .root)) (x .operations)
+forgetful-plain = started-plain _ (λ o g i t. step-plain o g i (emptied t))
 
-pub no-forgetting : StaleAlwaysThen forgetful → ⊥
+pub forgetful-refuted : StaleAlwaysThen forgetful → ⊥
 unfolding forgetful
-no-forgetting always = no-never-stale forgetful forgetful-orderly (by-track .begins) forgetful-plain emptied-never always
+forgetful-refuted always = no-never-stale forgetful forgetful-orderly (by-track .begins) forgetful-plain emptied-never always

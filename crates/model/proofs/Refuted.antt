@@ -1,7 +1,7 @@
 -- Wrong checkers refuted: the third demand does not hold of them.
 use Prim.Native.Nat.{ℕ, zero, suc, _+_, _*_, _/_, _<_, _≤_}
 use mathlib.Core.Path.{_≡_, refl, sym, ap, ap₂, _∙_, subst}
-use mathlib.Core.Logic.{_⊎_, inl, inr}
+use mathlib.Core.Logic.{_↔_, _⊎_, inl, inr}
 use mathlib.Core.Bool.{Bool, true, false, cond, _&&_, _||_, true≢false}
 use mathlib.Core.Option.{Option, none, some}
 use mathlib.Core.List.{List, [], _∷_, map}
@@ -19,7 +19,7 @@ use Rattle.model.specs.step.Checks.{isSize, sizeFits, firstFailing}
 use Rattle.model.specs.step.Machine.{After, started, stepped}
 use Rattle.model.specs.Demands.{Call, after}
 use Rattle.model.specs.Invisible.{Session, begun, Accepted, checked, toldOf, chipStartOf, chipRunOf, plainEnd, atEnd, alignedAccess, CouldDiffer, Same, Exactly, Invisible, checker}
-use Rattle.model.specs.Wrong.{SameBegins, SamePlain, SameChip, StaleOnlyThen, StaleAlwaysThen, SaysStaleAtOnce, Orderly, Copies, NeverStale, GoesByTrack, AlikeBut, LooksElsewhere}
+use Rattle.model.specs.Wrong.{SameBegins, SamePlain, SameChip, StaleOnlyThen, StaleAlwaysThen, StartsInUserMode, SaysStaleAtOnce, Orderly, Copies, NeverStale, GoesByTrack, AlikeBut, LooksElsewhere}
 use Rattle.model.specs.Types.{Registers, Operation, Kind, Read, Write, Root, Asid, Mode, All as AllSets, Addr, Ctx, AddrCtx, Entry, Pass}
 use Rattle.model.proofs.Tests.{and-both, three-or}
 use Rattle.model.proofs.Calls.{firstHolding, given-first, none-some, not-refused, exactly, start-exactly, start-words, track-length, start-track-length, size-passed, checksOf, Begun, begun as begunBy, back as turned, done as noted-then}
@@ -28,12 +28,23 @@ use Rattle.model.proofs.Instance.{stateOf, outcome-page}
 use Rattle.model.proofs.Chips.{held, load-brings}
 use Rattle.model.proofs.ThirdDemand.{holds-within}
 
+-- ── The third demand is its five parts ──
+
 -- the two directions of the second half
 only-then : (m : Checker) → Exactly m → StaleOnlyThen m
 only-then m e x a o p q = e .stale x a o p q .0
 
 always-then : (m : Checker) → Exactly m → StaleAlwaysThen m
 always-then m e x a o p q = e .stale x a o p q .1
+
+pub parts : (m : Checker) → Invisible m ↔ (SameBegins m × SamePlain m × SameChip m × StaleOnlyThen m × StaleAlwaysThen m)
+parts m = (
+  λ v. (v .same .begins, v .same .plain, v .same .chip, only-then m (v .exactly), always-then m (v .exactly)),
+  λ y. record {
+    same = record { begins = y .0; plain = y .1; chip = y .2 };
+    exactly = record { stale = λ x a o p q. (y .3 x a o p q, y .4 x a o p q) };
+  },
+)
 
 -- ── What is held was loaded ──
 
@@ -435,8 +446,16 @@ module _ (m : Checker) (ord : Orderly m) (start : SameBegins m) (plain : SamePla
         ∙ ap₂ (λ (s : State) (t : List ℕ). shown (m .step readPage2 (s .registers) (s .memory) t .answer)) (sym back-state) (sym (copied w))
         ∙ stale-back (always-then m exact))
 
--- ── It copies the track: refuted by the chip alone ──
+-- ── By the first half ──
 
+-- by its field `begins`
+pub no-user-start : (m : Checker) → Orderly m → StartsInUserMode m → SameBegins m → ⊥
+unfolding session fresh
+no-user-start m ord user begins =
+    let e : _≡_ {A = ℕ} 1 0 = sym (user image track0 0) ∙ ap (λ (s : State). s .registers .mode) (begins (session 0 []) (start-accepted m ord 0 free0 [])) in
+    omega arith
+
+-- by its field `chip`: start with root 0, `root 0x80`, `root 0`, a read of page 2
 pub no-copying-chip : (m : Checker) → Orderly m → GoesByTrack m → Copies m → SameChip m → ⊥
 unfolding session told
 no-copying-chip m ord by w agrees =
@@ -461,9 +480,11 @@ no-copying-chip m ord by w agrees =
 
 -- ── By the second half ──
 
+-- by one direction, after the same two operations
 pub no-never-stale : (m : Checker) → Orderly m → SameBegins m → SamePlain m → NeverStale m → StaleAlwaysThen m → ⊥
 no-never-stale m ord begins plain never always = never readPage2 _ _ _ (stale-back m ord begins plain always)
 
+-- by both
 pub no-looking-elsewhere : (m : Checker) → Orderly m → Invisible m → LooksElsewhere m → ⊥
 no-looking-elsewhere m ord inv w =
     elsewhere-refuted m ord (inv .same .begins) (inv .same .plain) (inv .exactly) w
@@ -530,7 +551,7 @@ by-track = record {
     unmapped i t root acc p n h e (noted-then a k b) =
         start-words i t root (λ r g. not-refused _ r acc (start-exactly i t root r .1 g)) 0 p k h ∙ empty-noted i root p n e
 
-copyingStep : Operation → Registers → List ℕ → List ℕ → After
+unfoldable pub copyingStep : Operation → Registers → List ℕ → List ℕ → After
 copyingStep o g i t = record {
   answer = stepped o g i t .answer;
   registers = stepped o g i t .registers;
@@ -538,7 +559,7 @@ copyingStep o g i t = record {
   track = t;
 }
 
-pub copying : Checker
+unfoldable pub copying : Checker
 copying = record { start = started; step = copyingStep }
 
 copying-orderly : Orderly copying

@@ -37,6 +37,10 @@ StaleAlwaysThen m = (x : Session) → Accepted m x → (o : Operation) → align
 
 -- ── The mistakes ──
 
+-- Its start returns user mode.
+abbrev pub StartsInUserMode : Checker → Type 0
+StartsInUserMode m = (i t : List ℕ) (root : ℕ) → m .start i t root .registers .mode ≡ 1
+
 -- It says 16 at an aligned access directly after some accepted start.
 pub record SaysStaleAtOnce (m : Checker) : Type 0 where
   pub session : Session
