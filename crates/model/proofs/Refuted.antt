@@ -1,7 +1,7 @@
 -- Wrong checkers refuted: the third demand does not hold of them.
 use Prim.Native.Nat.{ℕ, zero, suc, _+_, _*_, _/_, _<_, _≤_}
 use mathlib.Core.Path.{_≡_, refl, sym, ap, ap₂, _∙_, subst}
-use mathlib.Core.Logic.{_⊎_, inl, inr}
+use mathlib.Core.Logic.{_↔_, _⊎_, inl, inr}
 use mathlib.Core.Bool.{Bool, true, false, cond, _&&_, _||_, true≢false}
 use mathlib.Core.Option.{Option, none, some}
 use mathlib.Core.List.{List, [], _∷_, map}
@@ -12,21 +12,39 @@ use lib.ListN.{length, set, replicate}
 use Rattle.tlb.specs.Places.{Within}
 use Rattle.tlb.proofs.PlaceLaws.{within-none, within-dropped}
 use Rattle.model.specs.Limits.{pageSize, rowSize}
-use Rattle.model.specs.Numbers.{Result, ok, fault, refused, shown}
-use Rattle.model.specs.reference.Rules.{Translation, found, failed, State, fresh, aligned, outcome, setRegisters, effect, carriedOut, plainStep, trackWord, Held, Places, heldFor, Move, drop, load, isFree, putIn, move, moves, chipStep, flushPlace, flushes, walk, descriptor, tableWord, section, bits, value, inMemory, conditions, startConditions, Given, among, contexts, refuses7, refuses8, refuses9, refuses10, refuses11, refuses12, refuses13, refuses14, refuses15, refuses16, stale}
-use Rattle.model.specs.reference.Runs.{last, Checker, next, checkerRun, isRefused, told, seen, plainRun, Moment, chipStart, chipNext, chipRun, Holds}
-use Rattle.model.specs.step.Checks.{isSize, sizeFits}
+use Rattle.model.specs.Numbers.{Result, ok, fault, refused, shown, refusalNumber}
+use Rattle.model.specs.reference.Rules.{Translation, found, failed, State, fresh, aligned, outcome, setRegisters, effect, carriedOut, plainStep, trackWord, Held, Places, heldFor, Move, drop, load, isFree, putIn, move, moves, chipStep, flushPlace, flushes, walk, descriptor, tableWord, section, bits, value, inMemory, conditions, startConditions, Given, among, contexts, refuses7, refuses8, refuses9, refuses10, refuses11, refuses12, refuses13, refuses14, refuses15, refuses16, stale, kept, differs, noted, notedIn, chipOutcome, orWalk, access, translated, touched, allows, rightOf, physical}
+use Rattle.model.specs.reference.Runs.{last, Checker, next, checkerRun, isRefused, told, seen, plainRun, Moment, chipStart, chipNext, chipRun, chipSeen, Holds}
+use Rattle.model.specs.step.Checks.{isSize, sizeFits, firstFailing}
 use Rattle.model.specs.step.Machine.{After, started, stepped}
 use Rattle.model.specs.Demands.{Call, after}
 use Rattle.model.specs.Invisible.{Session, begun, Accepted, checked, toldOf, chipStartOf, chipRunOf, plainEnd, atEnd, alignedAccess, CouldDiffer, Same, Exactly, Invisible, checker}
-use Rattle.model.specs.Wrong.{SaysStaleAtOnce, Orderly, Copies, AlikeBut, LooksElsewhere}
-use Rattle.model.specs.Types.{Registers, Operation, Kind, Read, Write, Root, Asid, Mode, All as AllSets, Addr, Ctx, AddrCtx, Entry}
+use Rattle.model.specs.Wrong.{SameBegins, SamePlain, SameChip, StaleOnlyThen, StaleAlwaysThen, StartsInUserMode, SaysStaleAtOnce, Orderly, Copies, NeverStale, GoesByTrack, AlikeBut, LooksElsewhere}
+use Rattle.model.specs.Types.{Registers, Operation, Kind, Read, Write, Root, Asid, Mode, All as AllSets, Addr, Ctx, AddrCtx, Entry, Pass}
 use Rattle.model.proofs.Tests.{and-both, three-or}
-use Rattle.model.proofs.Calls.{firstHolding, given-first, none-some, exactly, start-exactly, track-length, start-track-length, size-passed}
-use Rattle.model.proofs.Kept.{passes-checks, given-16}
+use Rattle.model.proofs.Calls.{firstHolding, given-first, none-some, not-refused, exactly, start-exactly, start-words, track-length, start-track-length, size-passed, checksOf, Begun, begun as begunBy, back as turned, done as noted-then}
+use Rattle.model.proofs.Kept.{begins as fresh-begins, passes-checks, given-16}
 use Rattle.model.proofs.Instance.{stateOf, outcome-page}
 use Rattle.model.proofs.Chips.{held, load-brings}
 use Rattle.model.proofs.ThirdDemand.{holds-within}
+
+-- ── The third demand is its five parts ──
+
+-- the two directions of the second half
+only-then : (m : Checker) → Exactly m → StaleOnlyThen m
+only-then m e x a o p q = e .stale x a o p q .0
+
+always-then : (m : Checker) → Exactly m → StaleAlwaysThen m
+always-then m e x a o p q = e .stale x a o p q .1
+
+pub parts : (m : Checker) → Invisible m ↔ (SameBegins m × SamePlain m × SameChip m × StaleOnlyThen m × StaleAlwaysThen m)
+parts m = (
+  λ v. (v .same .begins, v .same .plain, v .same .chip, only-then m (v .exactly), always-then m (v .exactly)),
+  λ y. record {
+    same = record { begins = y .0; plain = y .1; chip = y .2 };
+    exactly = record { stale = λ x a o p q. (y .3 x a o p q, y .4 x a o p q) };
+  },
+)
 
 -- ── What is held was loaded ──
 
@@ -70,10 +88,10 @@ none-differs m x o e y = go (x .operations) e (y .held) (y .other)
         at h d = d (sym (outcome-page (fresh (x .image) (x .root)) (o .a)) ∙ fresh-held (suc (y .places)) (fresh (x .image) (x .root)) (y .first) _ (o .a / pageSize) (y .entry) h)
     go (a ∷ rest) q h d = let z : _≡_ {A = Bool} true false = cc in true≢false z
 
-pub no-stale-at-once : (m : Checker) → SaysStaleAtOnce m → Invisible m → ⊥
-no-stale-at-once m w inv =
+pub no-stale-at-once : (m : Checker) → SaysStaleAtOnce m → StaleOnlyThen m → ⊥
+no-stale-at-once m w then =
     none-differs m (w .session) (w .operation) (w .nothingBefore)
-    (inv .exactly .stale (w .session) (w .accepted) (w .operation) (w .access) (λ r q. same-number r (sym (at-start) ∙ q)) .0 at-start)
+    (then (w .session) (w .accepted) (w .operation) (w .access) (λ r q. same-number r (sym (at-start) ∙ q)) at-start)
   where
     same-number : (r : ℕ) → _≡_ {A = Result} (refused 16) (refused r) → r ≡ 16
     same-number r q = cc
@@ -82,20 +100,34 @@ no-stale-at-once m w inv =
     at-start = subst (λ (os : List Operation). shown (next m (w .operation) (last (begun m (w .session)) (checkerRun m (begun m (w .session)) os)) .answer) ≡ refused 16)
         (sym (w .nothingBefore)) (unfold checkerRun last in w .says16)
 
+-- ── A chip that loads nothing is the plain machine ──
+
+idle-plain : (a : Option Result) (s : State) (l : List (Operation × Bool)) →
+    map chipSeen (chipRun (record { answer = a; state = s; held = none ∷ [] }) l (λ i. [])) ≡ plainRun s l
+unfolding chipRun chipNext chipStep chipSeen chipOutcome heldFor orWalk flushPlace moves plainRun plainStep carriedOut
+idle-plain a s [] = refl
+idle-plain a s ((o, true) ∷ l) = ap (λ xs. (none, s) ∷ xs) (idle-plain none s l)
+idle-plain a s ((o, false) ∷ l) = ap (λ xs. (some (carriedOut o s .0), carriedOut o s .1) ∷ xs) (idle-plain (some (carriedOut o s .0)) (carriedOut o s .1) l)
+
+-- so what agrees with every chip agrees with the plain machine
+chip-plain : (m : Checker) → SameChip m → SamePlain m
+unfolding chipStart moves
+chip-plain m agrees x acc = sym (idle-plain none (fresh (x .image) (x .root)) (toldOf m x)) ∙ agrees x acc 0 [] (λ i. [])
+
 -- ── A small image with two maps ──
 
--- under root 0 nothing is mapped; under root 0x80 the first MiB is a section at 0 with AP 1
-image : List ℕ
-image = set (set (replicate 4096 0) 0x80 2) 0x81 4
+-- three pages; under root 0 nothing is mapped; under root 0x80 the first MiB is a section at 0 with AP 1; 7 stands at the start of page 2
+unfoldable pub image : List ℕ
+image = set (set (set (replicate 12288 0) 0x80 2) 0x81 4) 0x2000 7
 
-toRoot : ℕ → Operation
+unfoldable pub toRoot : ℕ → Operation
 toRoot a = record { kind = Root; a = a; b = 0; c = 0 }
 
-readPage2 : Operation
+unfoldable pub readPage2 : Operation
 readPage2 = record { kind = Read; a = 0x2000; b = 4; c = 0 }
 
 -- what a TLB can hold of page 2 while the root is 0x80
-entry2 : Entry
+unfoldable pub entry2 : Entry
 entry2 = record { frame = 2; ap = 1 }
 
 -- the state with this root
@@ -161,23 +193,63 @@ loaded-between : Differs 0 [] afterFirst ((toRoot 0x80, false) ∷ (toRoot 0, fa
 unfolding last plainRun plainStep carriedOut effect setRegisters fresh chipStart chipRun chipNext chipStep moves move isFree heldFor putIn outcome walk descriptor tableWord section bits value inMemory flushPlace flushes Holds readPage2 toRoot entry2 image afterFirst
 loaded-between = (inl refl, λ q. unfolded-found 2 entry2 q)
 
-module _ (m : Checker) (ord : Orderly m) (inv : Invisible m) where
-  track0 : List ℕ
-  track0 = replicate 2048 0
+-- under root 0 page 2 is not mapped, and an empty word makes it not stale
+page2-unmapped : outcome (fresh image 0) (2 * pageSize) ≡ failed 2
+unfolding outcome fresh walk descriptor tableWord bits value inMemory image
+page2-unmapped = refl
 
-  long : length track0 ≡ 2048
-  unfolding track0
-  long = refl
+empty-not-stale : (t : List ℕ) → trackWord t 0 2 ≡ 0 → refuses16 readPage2 (at 0 .registers) (at 0 .memory) t ≡ false
+unfolding refuses16 among aligned stale kept differs readPage2 at
+empty-not-stale t e = rw e
 
-  session : ℕ → List Operation → Session
-  session root os = record { image = image; track = track0; root = root; operations = os }
+unfoldable pub track0 : List ℕ
+track0 = replicate 2048 0
 
-  -- a start that no condition turns back is accepted
-  accepts : (root : ℕ) → firstHolding (startConditions image track0 root) ≡ none → (os : List Operation) → Accepted m (session root os)
-  unfolding session
-  accepts root free os =
-      not-refused-is (shown (m .start image track0 root .answer)) (λ r q. no-given (startConditions image track0 root) r free (ord .starts image track0 root r q))
+long : length track0 ≡ 2048
+unfolding track0
+long = refl
 
+unfoldable pub session : ℕ → List Operation → Session
+session root os = record { image = image; track = track0; root = root; operations = os }
+
+free0 : firstHolding (startConditions image track0 0) ≡ none
+free0 = start-free track0 long .0
+
+free80 : firstHolding (startConditions image track0 0x80) ≡ none
+free80 = start-free track0 long .1
+
+-- an orderly checker accepts a start that no condition turns back
+start-accepted : (m : Checker) → Orderly m → (root : ℕ) → firstHolding (startConditions image track0 root) ≡ none → (os : List Operation) → Accepted m (session root os)
+unfolding session
+start-accepted m ord root free os =
+    not-refused-is (shown (m .start image track0 root .answer)) (λ r q. no-given (startConditions image track0 root) r free (ord .starts image track0 root r q))
+
+-- ── The chip reads by an entry that the tables no longer give ──
+
+-- root 0x80, root 0, a read of page 2, all carried out
+abbrev readAfter : List (Operation × Bool)
+readAfter = (toRoot 0x80, false) ∷ (toRoot 0, false) ∷ (readPage2, false) ∷ []
+
+thirdAnswer : List (Option Result × State) → Option Result
+thirdAnswer l = headAnswer (tailOf (tailOf l))
+  where
+    headAnswer : List (Option Result × State) → Option Result
+    headAnswer [] = none
+    headAnswer (y ∷ ys) = y .0
+
+-- the plain machine faults; a chip of one place that loaded page 2 after the first operation reads the 7
+plain-faults : thirdAnswer (plainRun (fresh image 0) readAfter) ≡ some (fault 2)
+unfolding thirdAnswer tailOf plainRun plainStep carriedOut effect setRegisters access translated aligned fresh outcome walk descriptor tableWord bits value inMemory readPage2 toRoot image
+plain-faults = refl
+
+chip-reads : thirdAnswer (map chipSeen (chipRun (chipStart 1 (fresh image 0) []) readAfter afterFirst)) ≡ some (ok 7)
+unfolding thirdAnswer tailOf chipRun chipStart chipNext chipStep chipSeen chipOutcome orWalk effect setRegisters access translated touched aligned allows rightOf physical fresh moves move isFree heldFor putIn outcome walk descriptor tableWord section bits value inMemory flushPlace flushes readPage2 toRoot image afterFirst
+chip-reads = refl
+
+faults-reads : _≡_ {A = Option Result} (some (fault 2)) (some (ok 7)) → ⊥
+faults-reads q = let z : _≡_ {A = Bool} true false = cc in true≢false z
+
+module _ (m : Checker) (ord : Orderly m) (start : SameBegins m) (plain : SamePlain m) where
   -- an operation on this state, with a track of this length
   record Handed (x : After) (root : ℕ) : Type 0 where
     state : stateOf x ≡ at root
@@ -186,7 +258,7 @@ module _ (m : Checker) (ord : Orderly m) (inv : Invisible m) where
   begins : (root : ℕ) → firstHolding (startConditions image track0 root) ≡ none → Handed (m .start image track0 root) root
   unfolding session fresh at
   begins root free = record {
-    state = inv .same .begins (session root []) (accepts root free []);
+    state = start (session root []) (start-accepted m ord root free []);
     long-track = ord .startLength image track0 root ∙ long;
   }
 
@@ -221,28 +293,6 @@ module _ (m : Checker) (ord : Orderly m) (inv : Invisible m) where
       go (yes e) = e
       go (no e) = by (refuses16 readPage2 (at 0 .registers) image (x .track)) (sym here ∙ given-first _ r (ord .steps readPage2 (x .registers) (x .memory) (x .track) r q e))
 
-  -- directly after the start with root 0 the read is not refused as stale
-  not-at-once : shown (next m readPage2 (m .start image track0 0) .answer) ≡ refused 16 → ⊥
-  unfolding session
-  not-at-once q = no-stale-at-once m (record {
-    session = session 0 [];
-    operation = readPage2;
-    nothingBefore = refl;
-    accepted = accepts 0 (start-free track0 long .0) [];
-    access = unfold alignedAccess among aligned readPage2 in refl;
-    says16 = q;
-  }) inv
-
-  -- then the read is refused as stale
-  is-stale : (root : ℕ) (os : List Operation) (first : List Move) (script : ℕ → List Move) (l : List (Operation × Bool)) →
-      Accepted m (session root os) → toldOf m (session root os) ≡ l → Differs root first script l → Handed (atEnd m (session root os)) 0 →
-      shown (next m readPage2 (atEnd m (session root os)) .answer) ≡ refused 16
-  unfolding session
-  is-stale root os first script l acc e d h =
-      let y = subst (Differs root first script) (sym e) d in
-      inv .exactly .stale (session root os) acc readPage2 (unfold alignedAccess among aligned readPage2 in refl) (only-16 (atEnd m (session root os)) h) .1
-      (record { places = 0; first = first; script = script; entry = entry2; held = y .0; other = y .1 })
-
   -- the state after one change of root
   one-changed : (root a : ℕ) → Accepted m (session root (toRoot a ∷ [])) → toldOf m (session root (toRoot a ∷ [])) ≡ (toRoot a, false) ∷ [] →
       stateOf (next m (toRoot a) (m .start image track0 root)) ≡ at a
@@ -250,122 +300,198 @@ module _ (m : Checker) (ord : Orderly m) (inv : Invisible m) where
   one-changed root a acc e =
       sym
       (ap (λ l. headState (plainRun (fresh image root) l)) (sym e)
-      ∙ ap headState (inv .same .plain (session root (toRoot a ∷ [])) acc)
+      ∙ ap headState (plain (session root (toRoot a ∷ [])) acc)
       ∙ (unfold headState checkerRun seen in refl))
       ∙ (unfold headState plainRun plainStep carriedOut effect setRegisters fresh at toRoot in refl)
 
-  -- ── It looks for stale entries in other rows ──
+  -- ── To root 0x80 and back to 0 ──
 
-  module _ (w : LooksElsewhere m) where
-    free80 : firstHolding (startConditions image track0 0x80) ≡ none
-    free80 = start-free track0 long .1
+  begin : Handed (m .start image track0 0) 0
+  begin = begins 0 free0
 
-    b : After
-    b = m .start image track0 0x80
+  first-done : isRefused (shown (next m (toRoot 0x80) (m .start image track0 0) .answer)) ≡ false
+  first-done = changes (m .start image track0 0) 0 0x80 begin (λ t e. root-free t e .0)
 
-    at-begin : Handed (m .start image track0 0x80) 0x80
-    at-begin = begins 0x80 free80
+  first-told : toldOf m (session 0 (toRoot 0x80 ∷ [])) ≡ (toRoot 0x80, false) ∷ []
+  unfolding session told
+  first-told = λ i. (toRoot 0x80, first-done i) ∷ []
 
-    done : isRefused (shown (next m (toRoot 0) (m .start image track0 0x80) .answer)) ≡ false
-    done = changes (m .start image track0 0x80) 0x80 0 at-begin (λ t e. root-free t e .1)
+  between : Handed (next m (toRoot 0x80) (m .start image track0 0)) 0x80
+  between = record {
+    state = one-changed 0 0x80 (start-accepted m ord 0 free0 (toRoot 0x80 ∷ [])) first-told;
+    long-track = ord .stepLength (toRoot 0x80) _ _ _ ∙ begin .long-track;
+  }
 
-    told-one : toldOf m (session 0x80 (toRoot 0 ∷ [])) ≡ (toRoot 0, false) ∷ []
-    unfolding session told
-    told-one = λ i. (toRoot 0, done i) ∷ []
+  both : List Operation
+  both = toRoot 0x80 ∷ toRoot 0 ∷ []
 
-    after-one : Handed (next m (toRoot 0) (m .start image track0 0x80)) 0
-    after-one = record {
-      state = one-changed 0x80 0 (accepts 0x80 free80 (toRoot 0 ∷ [])) told-one;
-      long-track = ord .stepLength (toRoot 0) _ _ _ ∙ at-begin .long-track;
-    }
+  second-done : isRefused (shown (next m (toRoot 0) (next m (toRoot 0x80) (m .start image track0 0)) .answer)) ≡ false
+  second-done = changes (next m (toRoot 0x80) (m .start image track0 0)) 0x80 0 between (λ t e. root-free t e .1)
 
-    stale-then : shown (next m readPage2 (next m (toRoot 0) (m .start image track0 0x80)) .answer) ≡ refused 16
-    unfolding session checkerRun last
-    stale-then =
-        is-stale 0x80 (toRoot 0 ∷ []) (load 0 2 ∷ []) (λ i. []) ((toRoot 0, false) ∷ []) (accepts 0x80 free80 (toRoot 0 ∷ [])) told-one loaded-first after-one
+  both-told : toldOf m (session 0 both) ≡ (toRoot 0x80, false) ∷ (toRoot 0, false) ∷ []
+  unfolding session told both
+  both-told = λ i. (toRoot 0x80, first-done i) ∷ (toRoot 0, second-done i) ∷ []
 
-    -- the same read directly after a start with root 0, on a track that differs at most in the row of context 0
-    alike : AlikeBut 0 (next m (toRoot 0) (m .start image track0 0x80) .track) (m .start image track0 0 .track)
-    alike = record {
-      lengths = after-one .long-track ∙ sym (begins 0 (start-free track0 long .0) .long-track);
-      others = λ c p n q.
-          subst (λ (s : State). (c ≡ s .registers .context → ⊥) → trackWord (next m (toRoot 0) (m .start image track0 0x80) .track) c p ≡ trackWord (m .start image track0 0x80 .track) c p)
-          (at-begin .state) (λ k. unfold toRoot in w .rootOthers 0 _ _ _ c p k q) (unfold at in n)
-          ∙ w .startOthers image track0 0x80 c p n q
-          ∙ sym (w .startOthers image track0 0 c p n q);
-    }
+  back-state : stateOf (next m (toRoot 0) (next m (toRoot 0x80) (m .start image track0 0))) ≡ at 0
+  unfolding session both
+  back-state =
+      sym
+      (ap (λ l. headState (tailOf (plainRun (fresh image 0) l))) (sym both-told)
+      ∙ ap (λ l. headState (tailOf l)) (plain (session 0 both) (start-accepted m ord 0 free0 both))
+      ∙ (unfold headState tailOf checkerRun seen in refl))
+      ∙ (unfold headState tailOf plainRun plainStep carriedOut effect setRegisters fresh at toRoot in refl)
 
-    refuted : ⊥
-    refuted = not-at-once
-        (ap (λ (s : State). shown (m .step readPage2 (s .registers) (s .memory) (m .start image track0 0 .track) .answer)) (begins 0 (start-free track0 long .0) .state)
-        ∙ sym (ap shown (w .blind readPage2 (at 0 .registers) (at 0 .memory) (next m (toRoot 0) (m .start image track0 0x80) .track) (m .start image track0 0 .track) (unfold at in alike)))
-        ∙ ap (λ (s : State). shown (m .step readPage2 (s .registers) (s .memory) (next m (toRoot 0) (m .start image track0 0x80) .track) .answer)) (sym (after-one .state))
-        ∙ stale-then)
+  back : Handed (next m (toRoot 0) (next m (toRoot 0x80) (m .start image track0 0))) 0
+  back = record { state = back-state; long-track = ord .stepLength (toRoot 0) _ _ _ ∙ between .long-track }
 
-  pub no-looking-elsewhere : LooksElsewhere m → ⊥
-  no-looking-elsewhere w = refuted w
+  -- one that copies the track has then the track that its start left
+  copied : Copies m → next m (toRoot 0) (next m (toRoot 0x80) (m .start image track0 0)) .track ≡ m .start image track0 0 .track
+  copied w = w (toRoot 0) _ _ _ ∙ w (toRoot 0x80) _ _ _
 
-  -- ── It copies the track ──
+  -- the read that follows is carried out by one that copies the track and goes by it: the word of page 2 is still empty
+  read-done : Copies m → GoesByTrack m → isRefused (shown (next m readPage2 (next m (toRoot 0) (next m (toRoot 0x80) (m .start image track0 0))) .answer)) ≡ false
+  read-done w by =
+      not-refused-is _ (λ r q. true≢false (sym (says r q) ∙ empty-not-stale (m .start image track0 0 .track) word))
+    where
+      x : After
+      x = next m (toRoot 0) (next m (toRoot 0x80) (m .start image track0 0))
 
-  module _ (w : Copies m) where
-    free0 : firstHolding (startConditions image track0 0) ≡ none
-    free0 = start-free track0 long .0
+      says : (r : ℕ) → shown (next m readPage2 x .answer) ≡ refused r → refuses16 readPage2 (at 0 .registers) (at 0 .memory) (m .start image track0 0 .track) ≡ true
+      says r q =
+          ap₂ (λ (s : State) (t : List ℕ). refuses16 readPage2 (s .registers) (s .memory) t) (sym back-state) (sym (copied w))
+          ∙ by .says16 readPage2 (x .registers) (x .memory) (x .track) (q ∙ ap refused (only-16 x back r q))
 
-    begin : Handed (m .start image track0 0) 0
-    begin = begins 0 free0
+      word : trackWord (m .start image track0 0 .track) 0 2 ≡ 0
+      word = unfold session in by .unmapped (session 0 []) (start-accepted m ord 0 free0 []) 2 2 (omega arith) page2-unmapped
 
-    first-done : isRefused (shown (next m (toRoot 0x80) (m .start image track0 0) .answer)) ≡ false
-    first-done = changes (m .start image track0 0) 0 0x80 begin (λ t e. root-free t e .0)
+  -- ── What the second half says of it ──
 
-    first-told : toldOf m (session 0 (toRoot 0x80 ∷ [])) ≡ (toRoot 0x80, false) ∷ []
-    unfolding session told
-    first-told = λ i. (toRoot 0x80, first-done i) ∷ []
+  module _ (always : StaleAlwaysThen m) where
+    -- where some TLB could hold the entry of page 2, the read is refused as stale
+    is-stale : (root : ℕ) (os : List Operation) (first : List Move) (script : ℕ → List Move) (l : List (Operation × Bool)) →
+        Accepted m (session root os) → toldOf m (session root os) ≡ l → Differs root first script l → Handed (atEnd m (session root os)) 0 →
+        shown (next m readPage2 (atEnd m (session root os)) .answer) ≡ refused 16
+    unfolding session
+    is-stale root os first script l acc e d h =
+        let y = subst (Differs root first script) (sym e) d in
+        always (session root os) acc readPage2 (unfold alignedAccess among aligned readPage2 in refl) (only-16 (atEnd m (session root os)) h)
+        (record { places = 0; first = first; script = script; entry = entry2; held = y .0; other = y .1 })
 
-    between : Handed (next m (toRoot 0x80) (m .start image track0 0)) 0x80
-    between = record {
-      state = one-changed 0 0x80 (accepts 0 free0 (toRoot 0x80 ∷ [])) first-told;
-      long-track = ord .stepLength (toRoot 0x80) _ _ _ ∙ begin .long-track;
-    }
-
-    both : List Operation
-    both = toRoot 0x80 ∷ toRoot 0 ∷ []
-
-    second-done : isRefused (shown (next m (toRoot 0) (next m (toRoot 0x80) (m .start image track0 0)) .answer)) ≡ false
-    second-done = changes (next m (toRoot 0x80) (m .start image track0 0)) 0x80 0 between (λ t e. root-free t e .1)
-
-    both-told : toldOf m (session 0 both) ≡ (toRoot 0x80, false) ∷ (toRoot 0, false) ∷ []
-    unfolding session told both
-    both-told = λ i. (toRoot 0x80, first-done i) ∷ (toRoot 0, second-done i) ∷ []
-
-    back-state : stateOf (next m (toRoot 0) (next m (toRoot 0x80) (m .start image track0 0))) ≡ at 0
-    unfolding session both
-    back-state =
-        sym
-        (ap (λ l. headState (tailOf (plainRun (fresh image 0) l))) (sym both-told)
-        ∙ ap (λ l. headState (tailOf l)) (inv .same .plain (session 0 both) (accepts 0 free0 both))
-        ∙ (unfold headState tailOf checkerRun seen in refl))
-        ∙ (unfold headState tailOf plainRun plainStep carriedOut effect setRegisters fresh at toRoot in refl)
-
-    back : Handed (next m (toRoot 0) (next m (toRoot 0x80) (m .start image track0 0))) 0
-    back = record { state = back-state; long-track = ord .stepLength (toRoot 0) _ _ _ ∙ between .long-track }
-
+    -- as it is after root 0x80 and back
     stale-back : shown (next m readPage2 (next m (toRoot 0) (next m (toRoot 0x80) (m .start image track0 0))) .answer) ≡ refused 16
     unfolding session checkerRun last both
     stale-back =
-        is-stale 0 both [] afterFirst ((toRoot 0x80, false) ∷ (toRoot 0, false) ∷ []) (accepts 0 free0 both) both-told loaded-between back
+        is-stale 0 both [] afterFirst ((toRoot 0x80, false) ∷ (toRoot 0, false) ∷ []) (start-accepted m ord 0 free0 both) both-told loaded-between back
 
-    -- state and track are those directly after the start
-    copied : next m (toRoot 0) (next m (toRoot 0x80) (m .start image track0 0)) .track ≡ m .start image track0 0 .track
-    copied = w (toRoot 0) _ _ _ ∙ w (toRoot 0x80) _ _ _
+  module _ (exact : Exactly m) where
+    -- directly after the start with root 0 the read is not refused as stale
+    not-at-once : shown (next m readPage2 (m .start image track0 0) .answer) ≡ refused 16 → ⊥
+    unfolding session
+    not-at-once q = no-stale-at-once m (record {
+      session = session 0 [];
+      operation = readPage2;
+      nothingBefore = refl;
+      accepted = start-accepted m ord 0 free0 [];
+      access = unfold alignedAccess among aligned readPage2 in refl;
+      says16 = q;
+    }) (only-then m exact)
 
-    copy-refuted : ⊥
-    copy-refuted = not-at-once
+    -- ── It looks for stale entries in other rows ──
+
+    module _ (w : LooksElsewhere m) where
+      at-begin : Handed (m .start image track0 0x80) 0x80
+      at-begin = begins 0x80 free80
+
+      done : isRefused (shown (next m (toRoot 0) (m .start image track0 0x80) .answer)) ≡ false
+      done = changes (m .start image track0 0x80) 0x80 0 at-begin (λ t e. root-free t e .1)
+
+      told-one : toldOf m (session 0x80 (toRoot 0 ∷ [])) ≡ (toRoot 0, false) ∷ []
+      unfolding session told
+      told-one = λ i. (toRoot 0, done i) ∷ []
+
+      after-one : Handed (next m (toRoot 0) (m .start image track0 0x80)) 0
+      after-one = record {
+        state = one-changed 0x80 0 (start-accepted m ord 0x80 free80 (toRoot 0 ∷ [])) told-one;
+        long-track = ord .stepLength (toRoot 0) _ _ _ ∙ at-begin .long-track;
+      }
+
+      stale-then : shown (next m readPage2 (next m (toRoot 0) (m .start image track0 0x80)) .answer) ≡ refused 16
+      unfolding session checkerRun last
+      stale-then =
+          is-stale (always-then m exact) 0x80 (toRoot 0 ∷ []) (load 0 2 ∷ []) (λ i. []) ((toRoot 0, false) ∷ []) (start-accepted m ord 0x80 free80 (toRoot 0 ∷ [])) told-one loaded-first after-one
+
+      -- the same read directly after a start with root 0, on a track that differs at most in the row of context 0
+      alike : AlikeBut 0 (next m (toRoot 0) (m .start image track0 0x80) .track) (m .start image track0 0 .track)
+      alike = record {
+        lengths = after-one .long-track ∙ sym (begins 0 free0 .long-track);
+        others = λ c p n q.
+            subst (λ (s : State). (c ≡ s .registers .context → ⊥) → trackWord (next m (toRoot 0) (m .start image track0 0x80) .track) c p ≡ trackWord (m .start image track0 0x80 .track) c p)
+            (at-begin .state) (λ k. unfold toRoot in w .rootOthers 0 _ _ _ c p k q) (unfold at in n)
+            ∙ w .startOthers image track0 0x80 c p n q
+            ∙ sym (w .startOthers image track0 0 c p n q);
+      }
+
+      elsewhere-refuted : ⊥
+      elsewhere-refuted = not-at-once
+          (ap (λ (s : State). shown (m .step readPage2 (s .registers) (s .memory) (m .start image track0 0 .track) .answer)) (begins 0 free0 .state)
+          ∙ sym (ap shown (w .blind readPage2 (at 0 .registers) (at 0 .memory) (next m (toRoot 0) (m .start image track0 0x80) .track) (m .start image track0 0 .track) (unfold at in alike)))
+          ∙ ap (λ (s : State). shown (m .step readPage2 (s .registers) (s .memory) (next m (toRoot 0) (m .start image track0 0x80) .track) .answer)) (sym (after-one .state))
+          ∙ stale-then)
+
+    -- ── It copies the track ──
+
+    copy-refuted : Copies m → ⊥
+    copy-refuted w = not-at-once
         (ap (λ (s : State). shown (m .step readPage2 (s .registers) (s .memory) (m .start image track0 0 .track) .answer)) (begin .state)
-        ∙ ap₂ (λ (s : State) (t : List ℕ). shown (m .step readPage2 (s .registers) (s .memory) t .answer)) (sym back-state) (sym copied)
-        ∙ stale-back)
+        ∙ ap₂ (λ (s : State) (t : List ℕ). shown (m .step readPage2 (s .registers) (s .memory) t .answer)) (sym back-state) (sym (copied w))
+        ∙ stale-back (always-then m exact))
 
-  pub no-copying : Copies m → ⊥
-  no-copying w = copy-refuted w
+-- ── By the first half ──
+
+-- by its field `begins`
+pub no-user-start : (m : Checker) → Orderly m → StartsInUserMode m → SameBegins m → ⊥
+unfolding session fresh
+no-user-start m ord user begins =
+    let e : _≡_ {A = ℕ} 1 0 = sym (user image track0 0) ∙ ap (λ (s : State). s .registers .mode) (begins (session 0 []) (start-accepted m ord 0 free0 [])) in
+    omega arith
+
+-- by its field `chip`: start with root 0, `root 0x80`, `root 0`, a read of page 2
+pub no-copying-chip : (m : Checker) → Orderly m → GoesByTrack m → Copies m → SameChip m → ⊥
+unfolding session told
+no-copying-chip m ord by w agrees =
+    faults-reads
+    (sym plain-faults
+    ∙ ap (λ l. thirdAnswer (plainRun (fresh image 0) l)) (sym told-all)
+    ∙ ap thirdAnswer (plain all acc ∙ sym (agrees all acc 0 [] afterFirst))
+    ∙ ap (λ l. thirdAnswer (map chipSeen (chipRun (chipStart 1 (fresh image 0) []) l afterFirst))) told-all
+    ∙ chip-reads)
+  where
+    plain : SamePlain m
+    plain = chip-plain m agrees
+
+    all : Session
+    all = session 0 (toRoot 0x80 ∷ toRoot 0 ∷ readPage2 ∷ [])
+
+    acc : Accepted m all
+    acc = start-accepted m ord 0 free0 (toRoot 0x80 ∷ toRoot 0 ∷ readPage2 ∷ [])
+
+    told-all : toldOf m all ≡ readAfter
+    told-all = λ i. (toRoot 0x80, first-done m ord (by .begins) plain i) ∷ (toRoot 0, second-done m ord (by .begins) plain i) ∷ (readPage2, read-done m ord (by .begins) plain w by i) ∷ []
+
+-- ── By the second half ──
+
+-- by one direction, after the same two operations
+pub no-never-stale : (m : Checker) → Orderly m → SameBegins m → SamePlain m → NeverStale m → StaleAlwaysThen m → ⊥
+no-never-stale m ord begins plain never always = never readPage2 _ _ _ (stale-back m ord begins plain always)
+
+-- by both
+pub no-looking-elsewhere : (m : Checker) → Orderly m → Invisible m → LooksElsewhere m → ⊥
+no-looking-elsewhere m ord inv w =
+    elsewhere-refuted m ord (inv .same .begins) (inv .same .plain) (inv .exactly) w
+
+pub no-copying : (m : Checker) → Orderly m → Invisible m → Copies m → ⊥
+no-copying m ord inv w =
+    copy-refuted m ord (inv .same .begins) (inv .same .plain) (inv .exactly) w
 
 -- ── The checker of this project is orderly, and so is one made of it that copies the track ──
 
@@ -381,18 +507,21 @@ named-size Addr b p s = absurd (true≢false (sym p))
 named-size Ctx b p s = absurd (true≢false (sym p))
 named-size AddrCtx b p s = absurd (true≢false (sym p))
 
-aligned-16 : (x : Call) → shown (after x .answer) ≡ refused 16 → alignedAccess (x .operation) ≡ true
-unfolding refuses16 alignedAccess
-aligned-16 x q =
-    let pass = passes-checks x (λ r e. same r (sym q ∙ e)) in
-    let all = and-both _ (stale (x .track) (x .registers .context) (x .operation .a / pageSize) (walk (x .memory) (x .registers .root) (x .operation .a))) (given-16 x pass .0 q) in
-    let kinds = and-both (among (x .operation .kind) (Read ∷ Write ∷ [])) (aligned (x .operation .a) (x .operation .b)) (all .0) in
-    ap₂ _&&_ (ap₂ _&&_ (kinds .0) (named-size (x .operation .kind) (x .operation .b) (kinds .0) (size-passed x pass))) (kinds .1)
+passes-16 : (x : Call) → shown (after x .answer) ≡ refused 16 → firstFailing (checksOf x) ≡ Pass
+passes-16 x q = passes-checks x (λ r e. same r (sym q ∙ e))
   where
     same : (r : ℕ) → _≡_ {A = Result} (refused 16) (refused r) → r ≡ 16
     same r e = cc
 
-abbrev call : Operation → Registers → List ℕ → List ℕ → Call
+aligned-16 : (x : Call) → shown (after x .answer) ≡ refused 16 → alignedAccess (x .operation) ≡ true
+unfolding refuses16 alignedAccess
+aligned-16 x q =
+    let pass = passes-16 x q in
+    let all = and-both _ (stale (x .track) (x .registers .context) (x .operation .a / pageSize) (walk (x .memory) (x .registers .root) (x .operation .a))) (given-16 x pass .0 q) in
+    let kinds = and-both (among (x .operation .kind) (Read ∷ Write ∷ [])) (aligned (x .operation .a) (x .operation .b)) (all .0) in
+    ap₂ _&&_ (ap₂ _&&_ (kinds .0) (named-size (x .operation .kind) (x .operation .b) (kinds .0) (size-passed x pass))) (kinds .1)
+
+abbrev pub call : Operation → Registers → List ℕ → List ℕ → Call
 call o g i t = record { operation = o; registers = g; memory = i; track = t }
 
 pub orderly : Orderly checker
@@ -404,7 +533,25 @@ orderly = record {
   stepLength = λ o g i t. track-length (call o g i t);
 }
 
-copyingStep : Operation → Registers → List ℕ → List ℕ → After
+empty-noted : (i : List ℕ) (root p n : ℕ) → outcome (fresh i root) (p * pageSize) ≡ failed n → notedIn (fresh i root) 0 p 0 ≡ 0
+unfolding notedIn noted fresh
+empty-noted i root p n e = rw e
+
+-- and goes by the track
+pub by-track : GoesByTrack checker
+by-track = record {
+  says16 = λ o g i t q. given-16 (call o g i t) (passes-16 (call o g i t) q) .0 q;
+  begins = λ x acc. fresh-begins (x .image) (x .track) (x .root) acc;
+  unmapped = λ x acc p n h e. unmapped (x .image) (x .track) (x .root) acc p n h e (begunBy (x .image) (x .track) (x .root));
+}
+  where
+    unmapped : (i t : List ℕ) (root : ℕ) → isRefused (shown (started i t root .answer)) ≡ false → (p n : ℕ) → p < rowSize → outcome (fresh i root) (p * pageSize) ≡ failed n →
+        Begun (started i t root) i t root → trackWord (started i t root .track) 0 p ≡ 0
+    unmapped i t root acc p n h e (turned k b) = absurd (not-refused _ (refusalNumber k) acc (ap (λ (y : After). shown (y .answer)) b))
+    unmapped i t root acc p n h e (noted-then a k b) =
+        start-words i t root (λ r g. not-refused _ r acc (start-exactly i t root r .1 g)) 0 p k h ∙ empty-noted i root p n e
+
+unfoldable pub copyingStep : Operation → Registers → List ℕ → List ℕ → After
 copyingStep o g i t = record {
   answer = stepped o g i t .answer;
   registers = stepped o g i t .registers;
@@ -412,7 +559,7 @@ copyingStep o g i t = record {
   track = t;
 }
 
-pub copying : Checker
+unfoldable pub copying : Checker
 copying = record { start = started; step = copyingStep }
 
 copying-orderly : Orderly copying
@@ -424,6 +571,19 @@ copying-orderly = record {
   startLength = start-track-length;
   stepLength = λ o g i t. refl;
 }
+
+copying-by-track : GoesByTrack copying
+unfolding copying copyingStep
+copying-by-track = record { says16 = by-track .says16; begins = by-track .begins; unmapped = by-track .unmapped }
+
+-- Start with root 0, `root 0x80`, `root 0`, a read of page 2: copying and the plain machine fault; a chip that loaded page 2 after
+-- the first operation reads 7. Of the first half only the field `chip` is used.
+pub copying-not-chip : SameChip copying → ⊥
+unfolding copying copyingStep
+copying-not-chip agrees = no-copying-chip copying copying-orderly copying-by-track (λ o g i t. refl) agrees
+
+pub copying-not-same : Same copying → ⊥
+copying-not-same s = copying-not-chip (s .chip)
 
 pub copying-refuted : Invisible copying → ⊥
 unfolding copying copyingStep

@@ -1,15 +1,45 @@
 -- Mistakes that the third demand rules out, as properties of a checker, whatever else the checker does.
-use Prim.Native.Nat.{ℕ, _<_}
+use Prim.Native.Nat.{ℕ, suc, _*_, _<_}
 use mathlib.Core.Path.{_≡_}
 use mathlib.Core.Bool.{true}
-use mathlib.Core.List.{List, []}
+use mathlib.Core.List.{List, [], map}
 use lib.ListN.{length}
-use Rattle.model.specs.Limits.{rowSize}
+use Rattle.model.specs.Limits.{pageSize, rowSize}
 use Rattle.model.specs.Numbers.{refused, shown}
-use Rattle.model.specs.reference.Rules.{trackWord, conditions, startConditions, Given}
-use Rattle.model.specs.reference.Runs.{Checker, next}
-use Rattle.model.specs.Invisible.{Session, begun, Accepted, alignedAccess}
+use Rattle.model.specs.reference.Rules.{failed, fresh, outcome, Move, trackWord, conditions, startConditions, refuses16, Given}
+use Rattle.model.specs.reference.Runs.{Checker, next, seen, chipSeen}
+use Rattle.model.specs.Invisible.{Session, begun, Accepted, checked, plainRunOf, chipRunOf, atEnd, alignedAccess, CouldDiffer}
 use Rattle.model.specs.Types.{Registers, Operation, Root}
+
+-- ── The third demand part by part, so that each can be seen to fail alone ──
+
+-- the three fields of `Same`
+abbrev pub SameBegins : Checker → Type 0
+SameBegins m = (x : Session) → Accepted m x → (record { memory = begun m x .memory; registers = begun m x .registers }) ≡ fresh (x .image) (x .root)
+
+abbrev pub SamePlain : Checker → Type 0
+SamePlain m = (x : Session) → Accepted m x → plainRunOf m x ≡ map seen (checked m x)
+
+abbrev pub SameChip : Checker → Type 0
+SameChip m = (x : Session) → Accepted m x → (n : ℕ) (first : List Move) (script : ℕ → List Move) →
+    map chipSeen (chipRunOf m x (suc n) first script) ≡ map seen (checked m x)
+
+-- the two directions of `Exactly`'s field: 16 is said only where a TLB could differ, and wherever one could
+abbrev pub StaleOnlyThen : Checker → Type 0
+StaleOnlyThen m = (x : Session) → Accepted m x → (o : Operation) → alignedAccess o ≡ true →
+    ((r : ℕ) → shown (next m o (atEnd m x) .answer) ≡ refused r → r ≡ 16) →
+    shown (next m o (atEnd m x) .answer) ≡ refused 16 → CouldDiffer m x o
+
+abbrev pub StaleAlwaysThen : Checker → Type 0
+StaleAlwaysThen m = (x : Session) → Accepted m x → (o : Operation) → alignedAccess o ≡ true →
+    ((r : ℕ) → shown (next m o (atEnd m x) .answer) ≡ refused r → r ≡ 16) →
+    CouldDiffer m x o → shown (next m o (atEnd m x) .answer) ≡ refused 16
+
+-- ── The mistakes ──
+
+-- Its start returns user mode.
+abbrev pub StartsInUserMode : Checker → Type 0
+StartsInUserMode m = (i t : List ℕ) (root : ℕ) → m .start i t root .registers .mode ≡ 1
 
 -- It says 16 at an aligned access directly after some accepted start.
 pub record SaysStaleAtOnce (m : Checker) : Type 0 where
@@ -31,6 +61,18 @@ pub record Orderly (m : Checker) : Type 0 where
 -- After start it only copies the track.
 abbrev pub Copies : Checker → Type 0
 Copies m = (o : Operation) (g : Registers) (i t : List ℕ) → m .step o g i t .track ≡ t
+
+-- It never says 16.
+abbrev pub NeverStale : Checker → Type 0
+NeverStale m = (o : Operation) (g : Registers) (i t : List ℕ) → shown (m .step o g i t .answer) ≡ refused 16 → ⊥
+
+-- It goes by the track: it says 16 only where the track that it is lent makes the page stale, and its accepted start returns what the
+-- rules say and leaves empty, in context 0, the word of every page that the tables do not map.
+pub record GoesByTrack (m : Checker) : Type 0 where
+  pub says16 : (o : Operation) (g : Registers) (i t : List ℕ) → shown (m .step o g i t .answer) ≡ refused 16 → refuses16 o g i t ≡ true
+  pub begins : SameBegins m
+  pub unmapped : (x : Session) → Accepted m x → (p n : ℕ) → p < rowSize → outcome (fresh (x .image) (x .root)) (p * pageSize) ≡ failed n →
+      trackWord (begun m x .track) 0 p ≡ 0
 
 -- two tracks that differ at most in the row of one context
 pub record AlikeBut (context : ℕ) (t u : List ℕ) : Type 0 where

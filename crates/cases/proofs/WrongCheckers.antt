@@ -1,0 +1,215 @@
+-- Wrong checkers made of this project's, one for each part of the third demand, each refuted by that part alone. What refutes the
+-- copying one stands with the laws of the model: `copying-not-chip`.
+use Prim.Native.Nat.{ℕ, zero, suc, _+_, _*_, _/_}
+use mathlib.Core.Path.{_≡_, refl, sym, ap, ap₂, _∙_, subst}
+use mathlib.Core.Logic.{inl, inr}
+use mathlib.Core.Bool.{Bool, true, false, cond, _&&_, true≢false}
+use mathlib.Core.Option.{Option, none, some}
+use mathlib.Core.List.{List, [], _∷_, _++_, map}
+use native.Mathlib.Omega.{arith}
+use lib.ListN.{length, getD, replicate, length-replicate}
+use Rattle.model.specs.Limits.{pageSize, rowSize}
+use Rattle.model.specs.Numbers.{Result, ok, fault, refused, shown}
+use Rattle.model.specs.reference.Rules.{State, fresh, outcome, carriedOut, plainStep, walk, descriptor, tableWord, section, bits, value, inMemory, effect, access, translated, touched, aligned, allows, rightOf, physical, among, trackWord, stale, kept, differs, conditions, Given, refuses16}
+use Rattle.model.specs.reference.Runs.{Checker, next, checkerRun, isRefused, seen, told, plainRun}
+use Rattle.model.specs.step.Checks.{checks}
+use Rattle.model.specs.step.Machine.{After, turnedBack, started, stepped}
+use Rattle.model.specs.Invisible.{Session, Accepted, checked, toldOf, plainRunOf, alignedAccess, checker}
+use Rattle.model.specs.Wrong.{SameBegins, SamePlain, StaleOnlyThen, StaleAlwaysThen, SaysStaleAtOnce, Orderly, NeverStale}
+use Rattle.model.specs.declared.Kind.the-variants.{Read, Write}
+use Rattle.model.specs.declared.Registers.{Registers}
+use Rattle.model.specs.declared.Operation.{Operation}
+use Rattle.model.specs.declared.Answer.{Answer}
+use Rattle.model.specs.declared.Answer.the-variants.{Done, Faulted, Refused}
+use Rattle.model.specs.declared.Refusal.the-variants.{StalePage}
+use Rattle.model.proofs.Tests.{and-both}
+use Rattle.model.proofs.Checks.{asConditions, staleCondition, checks-same}
+use Rattle.model.proofs.Calls.{not-refused, exactly, plain, unchanged}
+use Rattle.model.proofs.Refuted.{image, readPage2, track0, session, no-user-start, no-stale-at-once, no-never-stale, orderly, by-track, call, copying, copyingStep}
+use Rattle.cases.proofs.CaseTools.{next as stepOn}
+
+-- ── What agrees with the plain machine in each step agrees with it in each run ──
+
+abbrev stateOf : List ℕ → Registers → State
+stateOf i g = record { memory = i; registers = g }
+
+-- each step does what the plain machine does, told whether it was refused
+abbrev StepsPlain : Checker → Type 0
+StepsPlain m = (o : Operation) (g : Registers) (i t : List ℕ) → plainStep o (isRefused (shown (m .step o g i t .answer))) (stateOf i g) ≡ seen (m .step o g i t)
+
+-- each step of this project's checker does, on any track
+step-plain : StepsPlain checker
+unfolding plainStep seen isRefused
+step-plain o g i t = by (shown (y .answer)) refl
+  where
+    y : After
+    y = stepped o g i t
+
+    left : State
+    left = stateOf (y .memory) (y .registers)
+
+    does : (x : Result) → shown (y .answer) ≡ x → isRefused x ≡ false → carriedOut o (stateOf i g) ≡ (x, left)
+    does x e f =
+        sym (plain (call o g i t) (λ r p. not-refused (shown (y .answer)) r (ap isRefused e ∙ f) (exactly (call o g i t) r .1 p)))
+        ∙ (λ k. (e k, left))
+
+    by : (x : Result) → shown (y .answer) ≡ x → plainStep o (isRefused x) (stateOf i g) ≡ (cond (isRefused x) none (some x), left)
+    by (ok v) e = ap (λ (z : Result × State). (some (z .0), z .1)) (does (ok v) e refl)
+    by (fault n) e = ap (λ (z : Result × State). (some (z .0), z .1)) (does (fault n) e refl)
+    by (refused r) e = let u = unchanged (call o g i t) r e in λ k. (none, stateOf (sym (u .memory) k) (sym (u .registers) k))
+
+run-plain : (m : Checker) → StepsPlain m → (x : After) (os : List Operation) → plainRun (stateOf (x .memory) (x .registers)) (told m x os) ≡ map seen (checkerRun m x os)
+unfolding plainRun told checkerRun seen
+run-plain m h x [] = refl
+run-plain m h x (o ∷ os) =
+    let e = h o (x .registers) (x .memory) (x .track) in
+    ap₂ _∷_ e (ap (λ (y : Option Result × State). plainRun (y .1) (told m (next m o x) os)) e ∙ run-plain m h (next m o x) os)
+
+started-plain : (step : Operation → Registers → List ℕ → List ℕ → After) → StepsPlain (record { start = started; step = step }) → SamePlain (record { start = started; step = step })
+started-plain step h x acc =
+    ap (λ (s : State). plainRun s (toldOf (record { start = started; step = step }) x)) (sym (by-track .begins x acc))
+    ∙ run-plain (record { start = started; step = step }) h (started (x .image) (x .track) (x .root)) (x .operations)
+
+-- ── `Same .begins`: its start returns user mode ──
+
+pub userStart : Checker
+userStart = record { start = λ i t root. inUserMode (started i t root); step = stepped }
+  where
+    inUserMode : After → After
+    inUserMode x = record {
+      answer = x .answer;
+      registers = record { root = x .registers .root; context = x .registers .context; mode = 1 };
+      memory = x .memory;
+      track = x .track;
+    }
+
+user-orderly : Orderly userStart
+unfolding userStart
+user-orderly = record {
+  starts = orderly .starts;
+  steps = orderly .steps;
+  only16 = orderly .only16;
+  startLength = orderly .startLength;
+  stepLength = orderly .stepLength;
+}
+
+pub user-start-refuted : SameBegins userStart → ⊥
+unfolding userStart
+user-start-refuted begins = no-user-start userStart user-orderly (λ i t root. refl) begins
+
+-- ── `Same .plain`: it answers 0 to every read that it carries out ──
+
+pub readsZero : Checker
+readsZero = record { start = started; step = λ o g i t. zeroed (stepped o g i t) }
+  where
+    zero-answer : Answer → Answer
+    zero-answer (Done v) = Done 0
+    zero-answer (Faulted f) = Faulted f
+    zero-answer (Refused r) = Refused r
+
+    zeroed : After → After
+    zeroed x = record { answer = zero-answer (x .answer); registers = x .registers; memory = x .memory; track = x .track }
+
+-- with root 0x80 page 2 is mapped, and the plain machine reads 7 there
+readOnce : Session
+readOnce = session 0x80 (readPage2 ∷ [])
+
+headAnswer : List (Option Result × State) → Option Result
+headAnswer [] = none
+headAnswer (y ∷ ys) = y .0
+
+zero-accepted : Accepted readsZero readOnce
+unfolding readsZero readOnce session image track0 isRefused stepOn
+zero-accepted = refl
+
+zero-read : headAnswer (map seen (checked readsZero readOnce)) ≡ some (ok 0)
+unfolding readsZero readOnce headAnswer session image track0 readPage2 checkerRun seen isRefused stepOn
+zero-read = refl
+
+seven-read : headAnswer (plainRunOf readsZero readOnce) ≡ some (ok 7)
+unfolding readsZero readOnce headAnswer session image track0 readPage2 told isRefused stepOn plainRun plainStep carriedOut effect access translated touched aligned allows rightOf physical fresh outcome walk descriptor tableWord section bits value inMemory
+seven-read = refl
+
+pub reads-zero-refuted : SamePlain readsZero → ⊥
+reads-zero-refuted plain = zero-seven (sym zero-read ∙ ap headAnswer (sym (plain readOnce zero-accepted)) ∙ seven-read)
+  where
+    zero-seven : _≡_ {A = Option Result} (some (ok 0)) (some (ok 7)) → ⊥
+    zero-seven q = let z : _≡_ {A = ℕ} 0 7 = cc in omega arith
+
+-- ── `Same .chip`: it copies the track, and `copying-not-chip` refutes it; the other two fields hold of it ──
+
+pub copying-begins : SameBegins copying
+unfolding copying
+copying-begins = by-track .begins
+
+pub copying-plain : SamePlain copying
+unfolding copying copyingStep seen
+copying-plain = started-plain copyingStep step-plain
+
+-- ── `Exactly .stale`, 16 only where a TLB could differ: it says 16 at every aligned access ──
+
+pub alwaysStale : Checker
+alwaysStale = record { start = started; step = λ o g i t. cond (alignedAccess o) (turnedBack StalePage g i t) (stepped o g i t) }
+
+says-at-once : SaysStaleAtOnce alwaysStale
+unfolding alwaysStale session image track0 readPage2 isRefused stepOn alignedAccess among aligned
+says-at-once = record { session = session 0 []; operation = readPage2; nothingBefore = refl; accepted = refl; access = refl; says16 = refl }
+
+pub always-stale-refuted : StaleOnlyThen alwaysStale → ⊥
+always-stale-refuted then = no-stale-at-once alwaysStale says-at-once then
+
+-- ── `Exactly .stale`, 16 wherever a TLB could differ: it empties the track before each operation, and so never says 16 ──
+
+emptied : List ℕ → List ℕ
+emptied t = replicate (length t) 0
+
+pub forgetful : Checker
+forgetful = record { start = started; step = λ o g i t. stepped o g i (emptied t) }
+
+emptied-length : (t : List ℕ) → length (emptied t) ≡ length t
+unfolding emptied
+emptied-length t = length-replicate (length t) 0
+
+zero-at : (n i : ℕ) → getD {A = ℕ} (replicate n 0) i 0 ≡ 0
+zero-at zero i = refl
+zero-at (suc n) zero = refl
+zero-at (suc n) (suc i) = zero-at n i
+
+emptied-never : NeverStale forgetful
+unfolding forgetful emptied refuses16 stale trackWord kept differs
+emptied-never o g i t q =
+    true≢false
+    (sym (and-both (among (o .kind) (Read ∷ Write ∷ []) && aligned (o .a) (o .b)) (stale (emptied t) (g .context) (o .a / pageSize) (walk i (g .root) (o .a))) (by-track .says16 o g i (emptied t) q) .1)
+    ∙ ap (λ w. differs (kept w) (walk i (g .root) (o .a))) (zero-at (length t) (rowSize * g .context + o .a / pageSize)))
+
+-- it refuses by other numbers as the rules do: their conditions ask no more of the track than its length
+other-last : (r : ℕ) (b c : Bool) → (r ≡ 16 → ⊥) → (xs : List (ℕ × Bool)) → Given r (xs ++ (16, b) ∷ []) → Given r (xs ++ (16, c) ∷ [])
+unfolding Given
+other-last r b c n [] (inl g) = absurd (n (sym (g .0)))
+other-last r b c n [] (inr g) = absurd (g .1)
+other-last r b c n (x ∷ xs) (inl g) = inl g
+other-last r b c n (x ∷ xs) (inr g) = inr (g .0, other-last r b c n xs (g .1))
+
+by-length : (o : Operation) (g : Registers) (i t u : List ℕ) (r : ℕ) → length t ≡ length u → (r ≡ 16 → ⊥) → Given r (conditions o g i t) → Given r (conditions o g i u)
+by-length o g i t u r e n y =
+    subst (Given r) (checks-same (call o g i u))
+    (subst (λ k. Given r (asConditions (checks o g (length i) k) ++ staleCondition (call o g i u) ∷ [])) e
+    (other-last r _ _ n (asConditions (checks o g (length i) (length t))) (subst (Given r) (sym (checks-same (call o g i t))) y)))
+
+forgetful-orderly : Orderly forgetful
+unfolding forgetful
+forgetful-orderly = record {
+  starts = orderly .starts;
+  steps = λ o g i t r q n. by-length o g i (emptied t) t r (emptied-length t) n (orderly .steps o g i (emptied t) r q n);
+  only16 = λ o g i t q. orderly .only16 o g i (emptied t) q;
+  startLength = orderly .startLength;
+  stepLength = λ o g i t. orderly .stepLength o g i (emptied t) ∙ emptied-length t;
+}
+
+pub forgetful-plain : SamePlain forgetful
+unfolding forgetful
+forgetful-plain = started-plain _ (λ o g i t. step-plain o g i (emptied t))
+
+pub forgetful-refuted : StaleAlwaysThen forgetful → ⊥
+unfolding forgetful
+forgetful-refuted always = no-never-stale forgetful forgetful-orderly (by-track .begins) forgetful-plain emptied-never always
