@@ -12,7 +12,7 @@ use Rattle.model.specs.step.Machine.{physicalOf, started}
 use Rattle.model.specs.declared.Kind.the-variants.{Read, Write, Addr}
 use Rattle.model.specs.declared.Outcome.{Outcome}
 use Rattle.model.specs.declared.Outcome.the-variants.{Mapped, Failed}
-use Rattle.cases.proofs.CaseTools.{allMatch, put, zeros, imageA, next, faultCode, refusalCode, answered}
+use Rattle.model.proofs.CaseTools.{allMatch, put, zeros, imageA, next, faultCode, refusalCode, answered}
 
 -- the physical address that an outcome gives an address, or the fault
 abbrev placed : Outcome → ℕ → ℕ

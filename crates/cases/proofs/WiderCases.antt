@@ -25,7 +25,7 @@ use Rattle.model.specs.declared.Outcome.{Outcome}
 use Rattle.model.specs.declared.Outcome.the-variants.{Mapped, Failed}
 use Rattle.model.specs.declared.Check.{Check}
 use Rattle.model.specs.declared.Check.the-variants.{Pass, Refuse}
-use Rattle.cases.proofs.CaseTools.{allMatch, put, zeros, imageA, next, faultCode, refusalCode, answered}
+use Rattle.model.proofs.CaseTools.{allMatch, put, zeros, imageA, next, faultCode, refusalCode, answered}
 
 -- 1 where it holds, 0 where not
 abbrev bit : Bool → ℕ

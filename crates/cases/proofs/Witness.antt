@@ -17,7 +17,7 @@ use Rattle.model.specs.Invisible.{Session, begun, Accepted, toldOf, chipStartOf
 use Rattle.model.specs.declared.Operation.{Operation}
 use Rattle.model.specs.declared.Kind.the-variants.{Read, Write}
 use Rattle.model.specs.declared.Entry.{Entry}
-use Rattle.cases.proofs.CaseTools.{imageA, next as stepOn}
+use Rattle.model.proofs.CaseTools.{imageA, next as stepOn}
 use Rattle.model.proofs.Chips.{held, flush-leaves}
 use Rattle.model.proofs.ThirdDemand.{holds-within, invisible}
 use Rattle.model.proofs.Pinned.{chip-ends}

@@ -26,7 +26,7 @@ use Rattle.model.proofs.Tests.{and-both}
 use Rattle.model.proofs.Checks.{asConditions, staleCondition, checks-same}
 use Rattle.model.proofs.Calls.{not-refused, exactly, plain, unchanged}
 use Rattle.model.proofs.Refuted.{image, readPage2, track0, session, no-user-start, no-stale-at-once, no-never-stale, orderly, by-track, call, copying, copyingStep}
-use Rattle.cases.proofs.CaseTools.{next as stepOn}
+use Rattle.model.proofs.CaseTools.{next as stepOn}
 
 -- ── What agrees with the plain machine in each step agrees with it in each run ──
 

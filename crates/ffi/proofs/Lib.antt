@@ -1,2 +1,3 @@
 -- Laws of the C functions.
 pub mod Laws
+pub mod CallCases

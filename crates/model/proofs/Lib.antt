@@ -17,3 +17,4 @@ pub mod Chips
 pub mod ThirdDemand
 pub mod Pinned
 pub mod Refuted
+pub mod CaseTools

@@ -3,3 +3,4 @@ pub mod RowsLaws
 pub mod Running
 pub mod ReportLaws
 pub mod ShownLaws
+pub mod Settings

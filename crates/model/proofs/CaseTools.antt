@@ -4,16 +4,15 @@ use mathlib.Core.Bool.{Bool, true, false, cond}
 use mathlib.Core.List.{List, [], _∷_}
 use lib.Dec.{eqb}
 use lib.ListN.{replicate}
 use Rattle.model.specs.Numbers.{Result, ok, fault, refused, shown}
 use Rattle.model.specs.step.Memory.{storedAt, within, loadAt, writtenAt}
 use Rattle.model.specs.step.Walk.{walkPage, firstAt, firstOf, secondAt, secondOf}
 use Rattle.model.specs.step.Rights.{kernelRights, userRights, rightsOf, permitted}
 use Rattle.model.specs.step.Rows.{inRow, eachRow}
 use Rattle.model.specs.step.Track.{isEntry, addEntry, notePage, noteTrack, flushAll, flushPage, flushContext, flushPageIn, staleWord}
 use Rattle.model.specs.step.Checks.{memoryFits, trackFits, lengthsFit, rootFits, registersFit, sizeFits, addressFits, valueFits, newRootFits, contextFits, modeFits, mayAsk, checks, startChecks, firstFailing}
 use Rattle.model.specs.step.Machine.{After, decided, accessAt, readStep, writeStep, operate, stepped, started}
-use Rattle.model.specs.declared.Kind.{Kind}
-use Rattle.model.specs.declared.Size.the-variants.{Four}
+use Rattle.model.specs.Types.{Kind, Four}
 
 -- whether each computed value is the expected one
 abbrev pub allMatch : List (ℕ × ℕ) → Bool

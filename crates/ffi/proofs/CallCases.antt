@@ -1,0 +1,63 @@
+-- The C functions, as one table of cases computed on their definitions: which word is which field, and the numbers of answers.
+use Prim.Native.Nat.{ℕ, _+_, _*_}
+use mathlib.Core.Path.{_≡_, refl}
+use mathlib.Core.Bool.{true}
+use mathlib.Core.List.{List, [], _∷_}
+use lib.ListN.{getD, replicate}
+use Rattle.model.proofs.CaseTools.{allMatch, zeros, imageA, next}
+use Rattle.ffi.specs.Words.{kindFrom, operationFrom, registersFrom, registersInto, areWords, Called, stepCall, startCall}
+
+-- one of the registers left, counted from 0, and a byte of the memory left
+abbrev register : ℕ → Called → ℕ
+register i x = getD (x .registers) i 9
+
+abbrev byte : ℕ → Called → ℕ
+byte at x = getD (x .memory) at 0
+
+-- a track of two contexts
+abbrev track : List ℕ
+track = replicate 2048 0
+
+-- an operation's four words and three registers, on image A
+abbrev called : ℕ → ℕ → ℕ → ℕ → List ℕ → Called
+called kind a b c registers = stepCall (kind ∷ a ∷ b ∷ c ∷ []) registers imageA track
+
+pub callCases : List (ℕ × ℕ)
+callCases =
+    let kernel : List ℕ = 0 ∷ 0 ∷ 0 ∷ [] in
+    let started = startCall zeros track 0x80 (9 ∷ 9 ∷ 9 ∷ []) in
+    let rooted = called 2 0x100 0 0 kernel in
+    let switched = called 3 1 0 0 kernel in
+    let user = called 4 1 0 0 kernel in
+    -- a start gives root, context 0 and kernel mode
+    (started .number, 0)
+    ∷ (register 0 started, 0x80)
+    ∷ (register 1 started, 0)
+    ∷ (register 2 started, 0)
+    -- refused: 10
+    ∷ (startCall zeros track 0x81 kernel .number, 0x20000000A)
+    -- two words are no registers
+    ∷ (startCall zeros track 0 (0 ∷ 0 ∷ []) .number, 0x300000000)
+    -- root, context and mode are the first, the second and the third register
+    ∷ (register 0 rooted, 0x100)
+    ∷ (register 1 switched, 1)
+    ∷ (register 2 user, 1)
+    ∷ (called 8 0 0 0 (0 ∷ 0 ∷ 1 ∷ []) .number, 0x20000000F)
+    ∷ (called 0 0 4 0 (0 ∷ 2 ∷ 0 ∷ []) .number, 0x20000000E)
+    -- a read: the address is the second word, the size the third; its value, and fault 3
+    ∷ (called 0 0x1000 4 0 kernel .number, 0x12345678)
+    ∷ (called 0 0x1002 2 0 kernel .number, 0x1234)
+    ∷ (called 0 0x2000 1 0 kernel .number, 0x100000003)
+    -- a write: the value is the fourth
+    ∷ (called 1 0x1000 2 0xABCD kernel .number, 0)
+    ∷ (byte 0x3000 (called 1 0x1000 2 0xABCD kernel), 0xCD)
+    ∷ (byte 0x3001 (called 1 0x1000 2 0xABCD kernel), 0xAB)
+    ∷ (byte 0x3002 (called 1 0x1000 2 0xABCD kernel), 0x34)
+    -- refused: 7; and no such kind
+    ∷ (called 0 0x1000 3 0 kernel .number, 0x200000007)
+    ∷ (called 9 0 0 0 kernel .number, 0x300000000)
+    ∷ []
+
+pub call-cases : allMatch callCases ≡ true
+unfolding callCases next kindFrom operationFrom registersFrom registersInto areWords stepCall startCall
+call-cases = refl

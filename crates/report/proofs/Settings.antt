@@ -1,0 +1,48 @@
+-- The program's settings, as one table of cases computed on the report's definition: root 0, eight contexts, and the image's limit.
+use Prim.Native.Nat.{ℕ}
+use mathlib.Core.Path.{_≡_, refl}
+use mathlib.Core.Bool.{Bool, true, false, cond, _&&_}
+use mathlib.Core.List.{List, [], _∷_, _++_}
+use lib.ListN.{replicate, take}
+use Rattle.text.specs.Split.{has, until, past, same}
+use Rattle.text.specs.Hex.{digit, glyph, digits, number, lean, spelled, valueOf, spell, hexOf}
+use Rattle.text.specs.Put.{over}
+use Rattle.text.specs.Quoted.{quotedFrom, quoted}
+use Rattle.model.specs.reference.Runs.{last, checkerRun}
+use Rattle.model.proofs.CaseTools.{imageA, next}
+use Rattle.names.specs.Names.{namedIn}
+use Rattle.listing.specs.Line.{spare, zeros, opOf, judged, valuesOf, fieldA, fieldB, fieldC, fieldsOf, lineOf}
+use Rattle.listing.specs.Whole.{tooLong, hasNames, readLines, readList}
+use Rattle.rows.specs.Text.{rowText}
+use Rattle.report.specs.Report.{imageLimit, trackLength, memoryLength, rowsOf, rowsText, bodyOf, reportOf}
+
+-- the report of an image file of n bytes with a list, on a track that held anything
+abbrev reportText : ℕ → List ℕ → List ℕ → List ℕ
+reportText n image list = reportOf (take (memoryLength n) image) (replicate trackLength 7) list .text
+
+abbrev allSame : List (List ℕ × List ℕ) → Bool
+allSame [] = true
+allSame (x ∷ xs) = same (x .0) (x .1) && allSame xs
+
+pub settings : List (List ℕ × List ℕ)
+unfolding next quotedFrom quoted
+settings =
+    -- the image and the list of the rules: the level-one table stands at root 0
+    (reportText 32768 imageA (quoted
+        "op,a,b,c\nread,1000,4,0\nwrite,404,4,4832\nread,1000,4,0\naddr,1000,0,0\nread,1000,4,0\nread,1002,4,0\nread,2000,1,0\nmode,1,0,0\nread,404,4,0\nall,0,0,0\n"),
+    quoted
+        "line,op,answer,value\n2,read,ok,12345678\n3,write,ok,0\n4,read,refused,10\n5,addr,ok,0\n6,read,ok,11223344\n7,read,fault,1\n8,read,fault,3\n9,mode,ok,0\na,read,fault,4\nb,all,refused,f\n")
+    -- eight contexts
+    ∷ (reportText 32768 imageA (quoted "op,a,b,c\nasid,7,0,0\nasid,8,0,0\n"), quoted "line,op,answer,value\n2,asid,ok,0\n3,asid,refused,b\n")
+    -- an image of 32,768 bytes, one of 32,769, and one that is missing
+    ∷ (reportText 32768 (replicate 32768 0) (quoted "op,a,b,c\n"), quoted "line,op,answer,value\n")
+    ∷ (reportText 32769 (replicate 32769 0) (quoted "op,a,b,c\n"), quoted "line,op,answer,value\n0,start,refused,d\n")
+    ∷ (reportText 0 [] (quoted "op,a,b,c\n"), quoted "line,op,answer,value\n0,start,refused,d\n")
+    -- the empty list
+    ∷ (reportText 32768 imageA [], quoted "line,op,answer,value\n1,-,refused,2\n")
+    ∷ []
+
+pub settings-hold : allSame settings ≡ true
+unfolding settings next quotedFrom quoted same has until past digit glyph digits number lean spelled valueOf spell hexOf over last checkerRun
+    namedIn spare zeros opOf judged valuesOf fieldA fieldB fieldC fieldsOf lineOf tooLong hasNames readLines readList rowText rowsOf rowsText bodyOf reportOf
+settings-hold = refl
