@@ -1,5 +1,4 @@
--- Wrong checkers made of this project's, one for each part of the third demand, each refuted by that part alone. What refutes the
--- copying one stands with the laws of the model: `copying-not-chip`.
+-- Wrong checkers made of this project's, one for each part of the third demand, each refuted by that part alone.
 use Prim.Native.Nat.{ℕ, zero, suc, _+_, _*_, _/_}
 use mathlib.Core.Path.{_≡_, refl, sym, ap, ap₂, _∙_, subst}
 use mathlib.Core.Logic.{inl, inr}
@@ -10,12 +9,12 @@ use native.Mathlib.Omega.{arith}
 use lib.ListN.{length, getD, replicate, length-replicate}
 use Rattle.model.specs.Limits.{pageSize, rowSize}
 use Rattle.model.specs.Numbers.{Result, ok, fault, refused, shown}
-use Rattle.model.specs.reference.Rules.{State, fresh, outcome, carriedOut, plainStep, walk, descriptor, tableWord, section, bits, value, inMemory, effect, access, translated, touched, aligned, allows, rightOf, physical, among, trackWord, stale, kept, differs, conditions, Given, refuses16}
-use Rattle.model.specs.reference.Runs.{Checker, next, checkerRun, isRefused, seen, told, plainRun}
+use Rattle.model.specs.reference.Rules.{State, fresh, outcome, carriedOut, plainStep, walk, descriptor, tableWord, section, bits, value, inMemory, effect, access, translated, touched, aligned, allows, rightOf, physical, among, trackWord, stale, kept, differs, conditions, Given, refuses16, setRegisters, chipOutcome, orWalk, chipStep, moves, move, isFree, heldFor, putIn, flushPlace, flushes}
+use Rattle.model.specs.reference.Runs.{Checker, next, checkerRun, isRefused, seen, told, plainRun, chipStart, chipNext, chipRun, chipSeen}
 use Rattle.model.specs.step.Checks.{checks}
 use Rattle.model.specs.step.Machine.{After, turnedBack, started, stepped}
-use Rattle.model.specs.Invisible.{Session, Accepted, checked, toldOf, plainRunOf, alignedAccess, checker}
-use Rattle.model.specs.Wrong.{SameBegins, SamePlain, StaleOnlyThen, StaleAlwaysThen, SaysStaleAtOnce, Orderly, NeverStale}
+use Rattle.model.specs.Invisible.{Session, Accepted, checked, toldOf, plainRunOf, alignedAccess, Same, checker}
+use Rattle.model.specs.Wrong.{SameBegins, SamePlain, SameChip, StaleOnlyThen, StaleAlwaysThen, SaysStaleAtOnce, Orderly, Copies, GoesByTrack, NeverStale}
 use Rattle.model.specs.declared.Kind.the-variants.{Read, Write}
 use Rattle.model.specs.declared.Registers.{Registers}
 use Rattle.model.specs.declared.Operation.{Operation}
@@ -25,7 +24,7 @@ use Rattle.model.specs.declared.Refusal.the-variants.{StalePage}
 use Rattle.model.proofs.Tests.{and-both}
 use Rattle.model.proofs.Checks.{asConditions, staleCondition, checks-same}
 use Rattle.model.proofs.Calls.{not-refused, exactly, plain, unchanged}
-use Rattle.model.proofs.Refuted.{image, readPage2, track0, session, no-user-start, no-stale-at-once, no-never-stale, orderly, by-track, call, copying, copyingStep}
+use Rattle.model.proofs.Refuted.{image, readPage2, track0, session, toRoot, afterFirst, chip-plain, start-accepted, free0, first-done, second-done, read-done, copying-orderly, copying-by-track, no-user-start, no-stale-at-once, no-never-stale, orderly, by-track, call, copying, copyingStep}
 use Rattle.model.proofs.CaseTools.{next as stepOn}
 
 -- ── What agrees with the plain machine in each step agrees with it in each run ──
@@ -136,8 +135,62 @@ reads-zero-refuted plain = zero-seven (sym zero-read ∙ ap headAnswer (sym (pla
     zero-seven : _≡_ {A = Option Result} (some (ok 0)) (some (ok 7)) → ⊥
     zero-seven q = let z : _≡_ {A = ℕ} 0 7 = cc in omega arith
 
--- ── `Same .chip`: it copies the track, and `copying-not-chip` refutes it; the other two fields hold of it ──
+-- ── `Same .chip`: it copies the track ──
 
+-- root 0x80, root 0, a read of page 2, all carried out
+abbrev readAfter : List (Operation × Bool)
+readAfter = (toRoot 0x80, false) ∷ (toRoot 0, false) ∷ (readPage2, false) ∷ []
+
+thirdAnswer : List (Option Result × State) → Option Result
+thirdAnswer [] = none
+thirdAnswer (x ∷ []) = none
+thirdAnswer (x ∷ y ∷ zs) = headAnswer zs
+
+-- the plain machine faults; a chip of one place that loaded page 2 after the first operation reads the 7
+plain-faults : thirdAnswer (plainRun (fresh image 0) readAfter) ≡ some (fault 2)
+unfolding thirdAnswer headAnswer plainRun plainStep carriedOut effect setRegisters access translated aligned fresh outcome walk descriptor tableWord bits value inMemory readPage2 toRoot image
+plain-faults = refl
+
+chip-reads : thirdAnswer (map chipSeen (chipRun (chipStart 1 (fresh image 0) []) readAfter afterFirst)) ≡ some (ok 7)
+unfolding thirdAnswer headAnswer chipRun chipStart chipNext chipStep chipSeen chipOutcome orWalk effect setRegisters access translated touched aligned allows rightOf physical fresh moves move isFree heldFor putIn outcome walk descriptor tableWord section bits value inMemory flushPlace flushes readPage2 toRoot image afterFirst
+chip-reads = refl
+
+faults-reads : _≡_ {A = Option Result} (some (fault 2)) (some (ok 7)) → ⊥
+faults-reads q = let z : _≡_ {A = Bool} true false = cc in true≢false z
+
+-- Start with root 0, `root 0x80`, `root 0`, a read of page 2: one that copies the track and goes by it carries the read out, as
+-- the word of page 2 is empty since start. No answer then agrees both with a chip that loaded page 2 between and with one that loaded nothing.
+pub no-copying-chip : (m : Checker) → Orderly m → GoesByTrack m → Copies m → SameChip m → ⊥
+unfolding session told
+no-copying-chip m ord by w agrees =
+    faults-reads
+    (sym plain-faults
+    ∙ ap (λ l. thirdAnswer (plainRun (fresh image 0) l)) (sym told-all)
+    ∙ ap thirdAnswer (plain all acc ∙ sym (agrees all acc 0 [] afterFirst))
+    ∙ ap (λ l. thirdAnswer (map chipSeen (chipRun (chipStart 1 (fresh image 0) []) l afterFirst))) told-all
+    ∙ chip-reads)
+  where
+    plain : SamePlain m
+    plain = chip-plain m agrees
+
+    all : Session
+    all = session 0 (toRoot 0x80 ∷ toRoot 0 ∷ readPage2 ∷ [])
+
+    acc : Accepted m all
+    acc = start-accepted m ord 0 free0 (toRoot 0x80 ∷ toRoot 0 ∷ readPage2 ∷ [])
+
+    told-all : toldOf m all ≡ readAfter
+    told-all = λ i. (toRoot 0x80, first-done m ord (by .begins) plain i) ∷ (toRoot 0, second-done m ord (by .begins) plain i) ∷ (readPage2, read-done m ord (by .begins) plain w by i) ∷ []
+
+-- so too the one made of this project's checker
+pub copying-not-chip : SameChip copying → ⊥
+unfolding copying copyingStep
+copying-not-chip agrees = no-copying-chip copying copying-orderly copying-by-track (λ o g i t. refl) agrees
+
+pub copying-not-same : Same copying → ⊥
+copying-not-same s = copying-not-chip (s .chip)
+
+-- the other two fields of the first half hold of it
 pub copying-begins : SameBegins copying
 unfolding copying
 copying-begins = by-track .begins

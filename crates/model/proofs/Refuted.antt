@@ -1,4 +1,4 @@
--- Wrong checkers refuted: the third demand does not hold of them.
+-- Wrong checkers refuted: the third demand does not hold of them. What takes longer to compute stands in the crate `cases`.
 use Prim.Native.Nat.{ℕ, zero, suc, _+_, _*_, _/_, _<_, _≤_}
 use mathlib.Core.Path.{_≡_, refl, sym, ap, ap₂, _∙_, subst}
 use mathlib.Core.Logic.{_↔_, _⊎_, inl, inr}
@@ -13,7 +13,7 @@ use Rattle.tlb.specs.Places.{Within}
 use Rattle.tlb.proofs.PlaceLaws.{within-none, within-dropped}
 use Rattle.model.specs.Limits.{pageSize, rowSize}
 use Rattle.model.specs.Numbers.{Result, ok, fault, refused, shown, refusalNumber}
-use Rattle.model.specs.reference.Rules.{Translation, found, failed, State, fresh, aligned, outcome, setRegisters, effect, carriedOut, plainStep, trackWord, Held, Places, heldFor, Move, drop, load, isFree, putIn, move, moves, chipStep, flushPlace, flushes, walk, descriptor, tableWord, section, bits, value, inMemory, conditions, startConditions, Given, among, contexts, refuses7, refuses8, refuses9, refuses10, refuses11, refuses12, refuses13, refuses14, refuses15, refuses16, stale, kept, differs, noted, notedIn, chipOutcome, orWalk, access, translated, touched, allows, rightOf, physical}
+use Rattle.model.specs.reference.Rules.{Translation, found, failed, State, fresh, aligned, outcome, setRegisters, effect, carriedOut, plainStep, trackWord, Held, Places, heldFor, Move, drop, load, isFree, putIn, move, moves, chipStep, flushPlace, flushes, walk, descriptor, tableWord, section, bits, value, inMemory, conditions, startConditions, Given, among, contexts, refuses7, refuses8, refuses9, refuses10, refuses11, refuses12, refuses13, refuses14, refuses15, refuses16, stale, kept, differs, noted, notedIn, chipOutcome, orWalk}
 use Rattle.model.specs.reference.Runs.{last, Checker, next, checkerRun, isRefused, told, seen, plainRun, Moment, chipStart, chipNext, chipRun, chipSeen, Holds}
 use Rattle.model.specs.step.Checks.{isSize, sizeFits, firstFailing}
 use Rattle.model.specs.step.Machine.{After, started, stepped}
@@ -110,7 +110,7 @@ idle-plain a s ((o, true) ∷ l) = ap (λ xs. (none, s) ∷ xs) (idle-plain none
 idle-plain a s ((o, false) ∷ l) = ap (λ xs. (some (carriedOut o s .0), carriedOut o s .1) ∷ xs) (idle-plain (some (carriedOut o s .0)) (carriedOut o s .1) l)
 
 -- so what agrees with every chip agrees with the plain machine
-chip-plain : (m : Checker) → SameChip m → SamePlain m
+pub chip-plain : (m : Checker) → SameChip m → SamePlain m
 unfolding chipStart moves
 chip-plain m agrees x acc = sym (idle-plain none (fresh (x .image) (x .root)) (toldOf m x)) ∙ agrees x acc 0 [] (λ i. [])
 
@@ -134,20 +134,24 @@ entry2 = record { frame = 2; ap = 1 }
 at : ℕ → State
 at root = record { memory = image; registers = record { root = root; context = 0; mode = 0 } }
 
+image-length : length image ≡ 12288
+unfolding image
+image-length = refl
+
 -- no condition of a start holds on this image with a track of this length
 start-free : (t : List ℕ) → length t ≡ 2048 → (firstHolding (startConditions image t 0) ≡ none) × (firstHolding (startConditions image t 0x80) ≡ none)
-unfolding startConditions firstHolding image refuses13 contexts
-start-free t e = (rw e, rw e)
+unfolding startConditions firstHolding refuses13 contexts
+start-free t e = (rw (image-length, e), rw (image-length, e))
 
 -- none of a change of root does
 root-free : (t : List ℕ) → length t ≡ 2048 → (firstHolding (conditions (toRoot 0x80) (at 0 .registers) image t) ≡ none) × (firstHolding (conditions (toRoot 0) (at 0x80 .registers) image t) ≡ none)
-unfolding conditions firstHolding image refuses13 refuses14 refuses7 refuses8 refuses9 refuses10 refuses11 refuses12 refuses15 refuses16 among contexts toRoot at
-root-free t e = (rw e, rw e)
+unfolding conditions firstHolding refuses13 refuses14 refuses7 refuses8 refuses9 refuses10 refuses11 refuses12 refuses15 refuses16 among contexts toRoot at
+root-free t e = (rw (image-length, e), rw (image-length, e))
 
 -- and of the read only 16 can
 read-free : (t : List ℕ) → length t ≡ 2048 → firstHolding (conditions readPage2 (at 0 .registers) image t) ≡ cond (refuses16 readPage2 (at 0 .registers) image t) (some 16) none
-unfolding conditions firstHolding image refuses13 refuses14 refuses7 refuses8 refuses9 refuses10 refuses11 refuses12 refuses15 among contexts readPage2 at
-read-free t e = rw e
+unfolding conditions firstHolding refuses13 refuses14 refuses7 refuses8 refuses9 refuses10 refuses11 refuses12 refuses15 among contexts readPage2 at
+read-free t e = rw (image-length, e)
 
 not-refused-is : (x : Result) → ((r : ℕ) → x ≡ refused r → ⊥) → isRefused x ≡ false
 unfolding isRefused
@@ -185,7 +189,7 @@ unfolding last plainRun plainStep carriedOut effect setRegisters fresh chipStart
 loaded-first = (inl refl, λ q. unfolded-found 2 entry2 q)
 
 -- loaded after the first change of root
-afterFirst : ℕ → List Move
+unfoldable pub afterFirst : ℕ → List Move
 afterFirst zero = load 0 2 ∷ []
 afterFirst (suc i) = []
 
@@ -212,42 +216,17 @@ long = refl
 unfoldable pub session : ℕ → List Operation → Session
 session root os = record { image = image; track = track0; root = root; operations = os }
 
-free0 : firstHolding (startConditions image track0 0) ≡ none
+pub free0 : firstHolding (startConditions image track0 0) ≡ none
 free0 = start-free track0 long .0
 
 free80 : firstHolding (startConditions image track0 0x80) ≡ none
 free80 = start-free track0 long .1
 
 -- an orderly checker accepts a start that no condition turns back
-start-accepted : (m : Checker) → Orderly m → (root : ℕ) → firstHolding (startConditions image track0 root) ≡ none → (os : List Operation) → Accepted m (session root os)
+pub start-accepted : (m : Checker) → Orderly m → (root : ℕ) → firstHolding (startConditions image track0 root) ≡ none → (os : List Operation) → Accepted m (session root os)
 unfolding session
 start-accepted m ord root free os =
     not-refused-is (shown (m .start image track0 root .answer)) (λ r q. no-given (startConditions image track0 root) r free (ord .starts image track0 root r q))
-
--- ── The chip reads by an entry that the tables no longer give ──
-
--- root 0x80, root 0, a read of page 2, all carried out
-abbrev readAfter : List (Operation × Bool)
-readAfter = (toRoot 0x80, false) ∷ (toRoot 0, false) ∷ (readPage2, false) ∷ []
-
-thirdAnswer : List (Option Result × State) → Option Result
-thirdAnswer l = headAnswer (tailOf (tailOf l))
-  where
-    headAnswer : List (Option Result × State) → Option Result
-    headAnswer [] = none
-    headAnswer (y ∷ ys) = y .0
-
--- the plain machine faults; a chip of one place that loaded page 2 after the first operation reads the 7
-plain-faults : thirdAnswer (plainRun (fresh image 0) readAfter) ≡ some (fault 2)
-unfolding thirdAnswer tailOf plainRun plainStep carriedOut effect setRegisters access translated aligned fresh outcome walk descriptor tableWord bits value inMemory readPage2 toRoot image
-plain-faults = refl
-
-chip-reads : thirdAnswer (map chipSeen (chipRun (chipStart 1 (fresh image 0) []) readAfter afterFirst)) ≡ some (ok 7)
-unfolding thirdAnswer tailOf chipRun chipStart chipNext chipStep chipSeen chipOutcome orWalk effect setRegisters access translated touched aligned allows rightOf physical fresh moves move isFree heldFor putIn outcome walk descriptor tableWord section bits value inMemory flushPlace flushes readPage2 toRoot image afterFirst
-chip-reads = refl
-
-faults-reads : _≡_ {A = Option Result} (some (fault 2)) (some (ok 7)) → ⊥
-faults-reads q = let z : _≡_ {A = Bool} true false = cc in true≢false z
 
 module _ (m : Checker) (ord : Orderly m) (start : SameBegins m) (plain : SamePlain m) where
   -- an operation on this state, with a track of this length
@@ -309,7 +288,7 @@ module _ (m : Checker) (ord : Orderly m) (start : SameBegins m) (plain : SamePla
   begin : Handed (m .start image track0 0) 0
   begin = begins 0 free0
 
-  first-done : isRefused (shown (next m (toRoot 0x80) (m .start image track0 0) .answer)) ≡ false
+  pub first-done : isRefused (shown (next m (toRoot 0x80) (m .start image track0 0) .answer)) ≡ false
   first-done = changes (m .start image track0 0) 0 0x80 begin (λ t e. root-free t e .0)
 
   first-told : toldOf m (session 0 (toRoot 0x80 ∷ [])) ≡ (toRoot 0x80, false) ∷ []
@@ -325,7 +304,7 @@ module _ (m : Checker) (ord : Orderly m) (start : SameBegins m) (plain : SamePla
   both : List Operation
   both = toRoot 0x80 ∷ toRoot 0 ∷ []
 
-  second-done : isRefused (shown (next m (toRoot 0) (next m (toRoot 0x80) (m .start image track0 0)) .answer)) ≡ false
+  pub second-done : isRefused (shown (next m (toRoot 0) (next m (toRoot 0x80) (m .start image track0 0)) .answer)) ≡ false
   second-done = changes (next m (toRoot 0x80) (m .start image track0 0)) 0x80 0 between (λ t e. root-free t e .1)
 
   both-told : toldOf m (session 0 both) ≡ (toRoot 0x80, false) ∷ (toRoot 0, false) ∷ []
@@ -349,7 +328,7 @@ module _ (m : Checker) (ord : Orderly m) (start : SameBegins m) (plain : SamePla
   copied w = w (toRoot 0) _ _ _ ∙ w (toRoot 0x80) _ _ _
 
   -- the read that follows is carried out by one that copies the track and goes by it: the word of page 2 is still empty
-  read-done : Copies m → GoesByTrack m → isRefused (shown (next m readPage2 (next m (toRoot 0) (next m (toRoot 0x80) (m .start image track0 0))) .answer)) ≡ false
+  pub read-done : Copies m → GoesByTrack m → isRefused (shown (next m readPage2 (next m (toRoot 0) (next m (toRoot 0x80) (m .start image track0 0))) .answer)) ≡ false
   read-done w by =
       not-refused-is _ (λ r q. true≢false (sym (says r q) ∙ empty-not-stale (m .start image track0 0 .track) word))
     where
@@ -455,29 +434,6 @@ no-user-start m ord user begins =
     let e : _≡_ {A = ℕ} 1 0 = sym (user image track0 0) ∙ ap (λ (s : State). s .registers .mode) (begins (session 0 []) (start-accepted m ord 0 free0 [])) in
     omega arith
 
--- by its field `chip`: start with root 0, `root 0x80`, `root 0`, a read of page 2
-pub no-copying-chip : (m : Checker) → Orderly m → GoesByTrack m → Copies m → SameChip m → ⊥
-unfolding session told
-no-copying-chip m ord by w agrees =
-    faults-reads
-    (sym plain-faults
-    ∙ ap (λ l. thirdAnswer (plainRun (fresh image 0) l)) (sym told-all)
-    ∙ ap thirdAnswer (plain all acc ∙ sym (agrees all acc 0 [] afterFirst))
-    ∙ ap (λ l. thirdAnswer (map chipSeen (chipRun (chipStart 1 (fresh image 0) []) l afterFirst))) told-all
-    ∙ chip-reads)
-  where
-    plain : SamePlain m
-    plain = chip-plain m agrees
-
-    all : Session
-    all = session 0 (toRoot 0x80 ∷ toRoot 0 ∷ readPage2 ∷ [])
-
-    acc : Accepted m all
-    acc = start-accepted m ord 0 free0 (toRoot 0x80 ∷ toRoot 0 ∷ readPage2 ∷ [])
-
-    told-all : toldOf m all ≡ readAfter
-    told-all = λ i. (toRoot 0x80, first-done m ord (by .begins) plain i) ∷ (toRoot 0, second-done m ord (by .begins) plain i) ∷ (readPage2, read-done m ord (by .begins) plain w by i) ∷ []
-
 -- ── By the second half ──
 
 -- by one direction, after the same two operations
@@ -562,7 +518,7 @@ copyingStep o g i t = record {
 unfoldable pub copying : Checker
 copying = record { start = started; step = copyingStep }
 
-copying-orderly : Orderly copying
+pub copying-orderly : Orderly copying
 unfolding copying copyingStep
 copying-orderly = record {
   starts = orderly .starts;
@@ -572,18 +528,9 @@ copying-orderly = record {
   stepLength = λ o g i t. refl;
 }
 
-copying-by-track : GoesByTrack copying
+pub copying-by-track : GoesByTrack copying
 unfolding copying copyingStep
 copying-by-track = record { says16 = by-track .says16; begins = by-track .begins; unmapped = by-track .unmapped }
-
--- Start with root 0, `root 0x80`, `root 0`, a read of page 2: copying and the plain machine fault; a chip that loaded page 2 after
--- the first operation reads 7. Of the first half only the field `chip` is used.
-pub copying-not-chip : SameChip copying → ⊥
-unfolding copying copyingStep
-copying-not-chip agrees = no-copying-chip copying copying-orderly copying-by-track (λ o g i t. refl) agrees
-
-pub copying-not-same : Same copying → ⊥
-copying-not-same s = copying-not-chip (s .chip)
 
 pub copying-refuted : Invisible copying → ⊥
 unfolding copying copyingStep
