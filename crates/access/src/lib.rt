@@ -88,7 +88,7 @@ pub fn grant(o: Outcome, mode: u32, writes: bool, size: Size, a: u32, m: &[u8]) 
     match o {
         Outcome::Failed(f) => Access::Fails(f),
         Outcome::Mapped(e) => {
-            let at = e.frame as usize * 4096 + a as usize % 4096;
+            let at = e.frame as usize * 4096 + a as usize % 4096; // pageSize
             let allowed = permitted(e.ap, mode, writes);
             let found = memory::inside(m, at, size);
             if !allowed {
@@ -121,7 +121,7 @@ pub fn decide(o: Outcome, w: u32, mode: u32, writes: bool, size: Size, a: u32, m
 pub fn access_at(r: Registers, m: &[u8], t: &[u32], writes: bool, size: Size, a: u32) -> Access
     ensures { λ x. ⌜ x ≡ accessAt r (now (m .entry)) (now (t .entry)) writes size a ⌝ }
 {
-    let page = a as usize / 4096;
+    let page = a as usize / 4096; // pageSize
     let o = walk::walk(m, r.root, page);
     let w = track::word_at(t, r.context, page);
     decide(o, w, r.mode, writes, size, a, m)

@@ -13,7 +13,7 @@ use Rattle.model.specs.reference.Rules.{State, fresh, outcome, carriedOut, plai
 use Rattle.model.specs.reference.Runs.{Checker, next, checkerRun, isRefused, seen, told, plainRun, chipStart, chipNext, chipRun, chipSeen}
 use Rattle.model.specs.step.Checks.{checks}
 use Rattle.model.specs.step.Machine.{After, turnedBack, started, stepped}
-use Rattle.model.specs.Invisible.{Session, Accepted, checked, toldOf, plainRunOf, alignedAccess, Same, checker}
+use Rattle.model.specs.Invisible.{Session, Accepted, checkerRunOf, toldOf, plainRunOf, alignedAccess, Same, checker}
 use Rattle.model.specs.Wrong.{SameBegins, SamePlain, SameChip, StaleOnlyThen, StaleAlwaysThen, SaysStaleAtOnce, Orderly, Copies, GoesByTrack, NeverStale}
 use Rattle.model.specs.declared.Kind.the-variants.{Read, Write}
 use Rattle.model.specs.declared.Registers.{Registers}
@@ -21,7 +21,7 @@ use Rattle.model.specs.declared.Operation.{Operation}
 use Rattle.model.specs.declared.Answer.{Answer}
 use Rattle.model.specs.declared.Answer.the-variants.{Done, Faulted, Refused}
 use Rattle.model.specs.declared.Refusal.the-variants.{StalePage}
-use Rattle.model.proofs.Tests.{and-both}
+use Rattle.model.proofs.BoolLaws.{and-both}
 use Rattle.model.proofs.Checks.{asConditions, staleCondition, checks-same}
 use Rattle.model.proofs.Calls.{not-refused, exactly, plain, unchanged}
 use Rattle.model.proofs.Refuted.{image, readPage2, track0, session, toRoot, afterFirst, chip-plain, start-accepted, free0, first-done, second-done, read-done, copying-orderly, copying-by-track, no-user-start, no-stale-at-once, no-never-stale, orderly, by-track, call, copying, copyingStep}
@@ -121,7 +121,7 @@ zero-accepted : Accepted readsZero readOnce
 unfolding readsZero readOnce session image track0 isRefused stepOn
 zero-accepted = refl
 
-zero-read : headAnswer (map seen (checked readsZero readOnce)) ≡ some (ok 0)
+zero-read : headAnswer (map seen (checkerRunOf readsZero readOnce)) ≡ some (ok 0)
 unfolding readsZero readOnce headAnswer session image track0 readPage2 checkerRun seen isRefused stepOn
 zero-read = refl
 

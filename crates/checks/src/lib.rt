@@ -30,10 +30,10 @@ pub fn address_fits(kind: Kind, a: u32) -> bool
     ensures { λ r. ⌜ r ≡ addressFits kind a ⌝ }
 {
     match kind {
-        Kind::Read => a < 4194304,
-        Kind::Write => a < 4194304,
-        Kind::Addr => a < 4194304,
-        Kind::AddrCtx => a < 4194304,
+        Kind::Read => a < 4194304, // addressLimit
+        Kind::Write => a < 4194304, // addressLimit
+        Kind::Addr => a < 4194304, // addressLimit
+        Kind::AddrCtx => a < 4194304, // addressLimit
         _ => true,
     }
 }
@@ -98,12 +98,12 @@ pub fn check(o: Operation, r: Registers, m: usize, t: usize) -> Check
 {
     let kind = o.kind;
     let lengths = lengths_fit(m, t);
-    let registers = registers_fit(r, t / 1024);
+    let registers = registers_fit(r, t / 1024); // rowSize
     let size = size_fits(kind, o.b);
     let address = address_fits(kind, o.a);
     let value = value_fits(kind, o.b, o.c);
     let root = new_root_fits(kind, o.a);
-    let context = context_fits(kind, o.a, o.b, t / 1024);
+    let context = context_fits(kind, o.a, o.b, t / 1024); // rowSize
     let mode = mode_fits(kind, o.a);
     let asked = may_ask(kind, r.mode);
     if !lengths {

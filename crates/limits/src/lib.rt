@@ -7,10 +7,10 @@ use model::Registers;
 pub fn memory_fits(n: usize) -> bool
     ensures { λ r. ⌜ r ≡ memoryFits n ⌝ }
 {
-    let rest = n % 4096;
+    let rest = n % 4096; // memoryUnit
     if rest == 0 {
-        if 4096 <= n {
-            return n <= 16777216;
+        if 4096 <= n { // memoryUnit
+            return n <= 16777216; // memoryMost
         }
         return false;
     }
@@ -21,17 +21,17 @@ pub fn memory_fits(n: usize) -> bool
 pub fn root_fits(root: u32) -> bool
     ensures { λ r. ⌜ r ≡ rootFits root ⌝ }
 {
-    root % 128 == 0
+    root % 128 == 0 // rootAlignment
 }
 
 // Whether n words can be a track.
 pub fn track_fits(n: usize) -> bool
     ensures { λ r. ⌜ r ≡ trackFits n ⌝ }
 {
-    let rest = n % 1024;
+    let rest = n % 1024; // rowSize
     if rest == 0 {
-        if 1024 <= n {
-            return n <= 262144;
+        if 1024 <= n { // rowSize
+            return n <= 262144; // contextsMost * rowSize
         }
         return false;
     }

@@ -22,7 +22,7 @@ use Rattle.names.specs.Names.{comma, newline, names, name, kinds, namedIn, name
 use Rattle.model.specs.declared.Kind.{Kind}
 use Rattle.model.specs.declared.Kind.the-variants.{Read, Write, Root, Asid, Mode, All, Addr, Ctx, AddrCtx}
 use Rattle.model.specs.reference.Rules.{Given}
-use Rattle.model.proofs.Tests.{same-test, not-leb}
+use Rattle.model.proofs.BoolLaws.{same-test, not-leb}
 use Rattle.model.proofs.Calls.{firstHolding, given-first, first-given, none-some, none-holds}
 use Rattle.listing.specs.declared.Line.{Line}
 use Rattle.listing.specs.declared.Line.the-variants.{Op, Refused}

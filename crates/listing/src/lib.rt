@@ -188,7 +188,7 @@ pub fn rest(list: &[u8]) -> &[u8]
 pub fn too_long(list: &[u8]) -> bool
     ensures { λ r. ⌜ r ≡ tooLong (now (list .entry)) ⌝ }
 {
-    65536 < list.len()
+    65536 < list.len() // listLimit
 }
 
 // Whether a list begins with the names line.

@@ -58,7 +58,7 @@ fn carry_out(kind: Kind, o: Operation, r: Registers, m: &mut [u8], t: &mut [u32]
             carry(Answer::Done(0), r, m, t)
         }
         Kind::Addr => {
-            track::flush_page(t, o.a as usize / 4096);
+            track::flush_page(t, o.a as usize / 4096); // pageSize
             carry(Answer::Done(0), r, m, t)
         }
         Kind::Ctx => {
@@ -66,7 +66,7 @@ fn carry_out(kind: Kind, o: Operation, r: Registers, m: &mut [u8], t: &mut [u32]
             carry(Answer::Done(0), r, m, t)
         }
         Kind::AddrCtx => {
-            track::flush_page_in(t, o.b as usize, o.a as usize / 4096);
+            track::flush_page_in(t, o.b as usize, o.a as usize / 4096); // pageSize
             carry(Answer::Done(0), r, m, t)
         }
     }

@@ -15,10 +15,10 @@ use Rattle.model.specs.reference.Rules.{Translation, found, failed, inMe
 use Rattle.model.specs.reference.Runs.{isRefused}
 use Rattle.model.specs.step.Track.{noteTrack, flushAll}
 use Rattle.model.specs.step.Checks.{checks, startChecks, firstFailing, contextFits, registersFit, sizeFits, rootFits, lengthsFit, memoryFits, trackFits}
-use Rattle.model.specs.step.Machine.{After, sizeOf, accessAt, readFrom, writeTo, readStep, writeStep, checked, startedBy, operate, stepped, started, startRegisters, zeroRegisters, turnedBack}
+use Rattle.model.specs.step.Machine.{After, sizeOf, accessAt, readFrom, writeTo, readStep, writeStep, afterChecks, startedBy, operate, stepped, started, startRegisters, zeroRegisters, turnedBack}
 use Rattle.model.specs.Demands.{Call, conditionsOf, after, before, visible, Leaves, Total, Faithful}
 use Rattle.model.specs.Types.{Registers, Operation, Kind, Read, Write, Root, Asid, Mode, All, Addr, Ctx, AddrCtx, Refusal, StalePage, Size, Check, Pass, Refuse, Access, Stale, Fails, Physical}
-use Rattle.model.proofs.Tests.{push, and-both}
+use Rattle.model.proofs.BoolLaws.{push, and-both}
 use Rattle.model.proofs.Checks.{asConditions, staleCondition, checks-same, start-checks-same}
 use Rattle.model.proofs.Track.{flushOf, noted-word, noted-length, flushed-word, flushed-length, word-after}
 use Rattle.model.proofs.Effect.{state, operate-same}
@@ -100,7 +100,7 @@ unfolding stepped
 step-same x = go (firstFailing (checksOf x)) refl ∙ ap (λ y. answerBy y (x .operation) (before x)) (sym (conditions-by x))
   where
     go : (y : Check) → firstFailing (checksOf x) ≡ y →
-        visible (checked y (x .operation) (x .registers) (x .memory) (x .track)) ≡ answerBy (orElse y (firstHolding (staleCondition x ∷ []))) (x .operation) (before x)
+        visible (afterChecks y (x .operation) (x .registers) (x .memory) (x .track)) ≡ answerBy (orElse y (firstHolding (staleCondition x ∷ []))) (x .operation) (before x)
     go (Refuse n) e = unfold orElse answerBy in refl
     go Pass e =
         operate-same (x .operation) (x .registers) (x .memory) (x .track) (size-passed x e)
@@ -222,7 +222,7 @@ ended : (x : Call) → Ended (after x) (x .registers) (x .memory) (x .track) (fl
 unfolding stepped
 ended x = go (firstFailing (checksOf x))
   where
-    go : (y : Check) → Ended (checked y (x .operation) (x .registers) (x .memory) (x .track)) (x .registers) (x .memory) (x .track) (flushedBy x)
+    go : (y : Check) → Ended (afterChecks y (x .operation) (x .registers) (x .memory) (x .track)) (x .registers) (x .memory) (x .track) (flushedBy x)
     go (Refuse n) = back n refl
     go Pass = operate-ended (x .operation .kind) (x .operation) (x .registers) (x .memory) (x .track)
 

@@ -13,7 +13,7 @@ use Rattle.model.specs.reference.Rules.{among, contexts, refuses7, refus
 use Rattle.model.specs.step.Checks.{memoryFits, trackFits, lengthsFit, rootFits, registersFit, isSize, sizeFits, addressFits, fitsSize, valueFits, newRootFits, contextFits, modeFits, mayAsk, checks, startChecks}
 use Rattle.model.specs.Demands.{Call, conditionsOf}
 use Rattle.model.specs.Types.{Registers, Operation, Kind, Read, Write, Root, Asid, Mode, All, Addr, Ctx, AddrCtx, Refusal}
-use Rattle.model.proofs.Tests.{leb-same, eqb-same, not-ltb, not-leb, or-false, three-and, three-or, not-three, not-two}
+use Rattle.model.proofs.BoolLaws.{leb-same, eqb-same, not-ltb, not-leb, or-false, three-and, three-or, not-three, not-two}
 
 -- an operation with these parts
 abbrev op : Kind → ℕ → ℕ → ℕ → Operation

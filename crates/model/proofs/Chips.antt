@@ -16,7 +16,7 @@ use Rattle.tlb.proofs.PlaceLaws.{none-some, some-same, within-none, within-drop
 use Rattle.model.specs.Limits.{pageSize, rowSize}
 use Rattle.model.specs.reference.Rules.{Translation, found, failed, State, outcome, flushes, Held, Places, heldFor, Move, drop, load, isFree, putIn, move, moves, orWalk, flushPlace}
 use Rattle.model.specs.Types.{Operation, Entry}
-use Rattle.model.proofs.Tests.{and-both}
+use Rattle.model.proofs.BoolLaws.{and-both}
 use Rattle.model.proofs.Instance.{asWalk, walkOf, tables, tlbOf}
 
 -- an entry held under a context and a page

@@ -18,7 +18,7 @@ use Rattle.model.specs.step.Checks.{isSize, sizeFits}
 use Rattle.model.specs.step.Machine.{After, sizeOf, valueOf, physicalOf, granted, decided, accessAt, readFrom, writeTo, readStep, writeStep, operate}
 use Rattle.model.specs.Demands.{visible}
 use Rattle.model.specs.Types.{Registers, Operation, Kind, Read, Write, Root, Asid, Mode, All, Addr, Ctx, AddrCtx, Entry, Alignment, Permission, AccessOutside, Size, One, Two, Four, Outcome, Mapped, Failed, Access, Stale, Fails, Physical}
-use Rattle.model.proofs.Tests.{push}
+use Rattle.model.proofs.BoolLaws.{push}
 use Rattle.model.proofs.Memory.{within-same, number-same, stored-same}
 use Rattle.model.proofs.Walk.{translation, walk-same}
 use Rattle.model.proofs.Rights.{rights-same}

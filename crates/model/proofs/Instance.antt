@@ -13,7 +13,7 @@ use lib.ListN.{replicate}
 use borrow.Author.Tests.{eqb-true, eqb-false, eq-eqb, ne-eqb}
 use Rattle.tlb.specs.Machine.{Machine, Walk, entry, fault}
 use Rattle.tlb.specs.Chip.{Chip}
-use Rattle.tlb.specs.Checker.{Checker, Reply, done, refused as refusedBy}
+use Rattle.tlb.specs.Tracker.{Tracker, Reply, done, refused as refusedBy}
 use Rattle.tlb.specs.Seen.{Seen, nothing, one, many}
 use Rattle.model.specs.Limits.{pageSize, rowSize}
 use Rattle.model.specs.Numbers.{Result, ok, fault as faulted, refused, shown}
@@ -79,7 +79,7 @@ stateOf x = record { memory = x .memory; registers = x .registers }
 abbrev pub callOf : State → List ℕ → Operation → After
 callOf s t o = stepped o (s .registers) (s .memory) t
 
-abbrev pub checker : Checker tables
+abbrev pub checker : Tracker tables
 checker = record {
   Track = List ℕ;
   Accepted = λ g t. isRefused (shown (started (g .0) t (g .1) .answer)) ≡ false;

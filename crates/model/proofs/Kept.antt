@@ -10,7 +10,7 @@ use lib.Dec.{eqb, ltb}
 use lib.ListN.{length}
 use borrow.Author.Tests.{eqb-true, eqb-false, eq-eqb, ne-eqb, ltb-true, ltb-false, lt-ltb, le-ltb}
 use Rattle.tlb.specs.Machine.{Walk, entry, fault}
-use Rattle.tlb.specs.Checker.{Reply, done, refused as refusedBy}
+use Rattle.tlb.specs.Tracker.{Reply, done, refused as refusedBy}
 use Rattle.tlb.specs.Seen.{Seen, nothing, one, many, note, spared, Stale}
 use Rattle.tlb.specs.Laws.{Carries, Keeps}
 use Rattle.tlb.specs.Words.{addWord, differsFrom, Coding}
@@ -24,7 +24,7 @@ use Rattle.model.specs.step.Checks.{checks, firstFailing, addressFits}
 use Rattle.model.specs.step.Machine.{After, stepped, started}
 use Rattle.model.specs.Demands.{Call, conditionsOf, after, before, visible, Leaves}
 use Rattle.model.specs.Types.{Registers, Operation, Kind, Read, Write, Root, Asid, Mode, All, Addr, Ctx, AddrCtx, Entry, Refusal, Check, Pass, Refuse, Outcome, Mapped, Failed}
-use Rattle.model.proofs.Tests.{and-both}
+use Rattle.model.proofs.BoolLaws.{and-both}
 use Rattle.model.proofs.Walk.{translation, walk-same}
 use Rattle.model.proofs.Words.{Fits, InRange, walk-range, decoded}
 use Rattle.model.proofs.Checks.{asConditions, staleCondition, checks-same}

@@ -1,5 +1,5 @@
 -- The theorems about the definitions.
-pub mod Tests
+pub mod BoolLaws
 pub mod Memory
 pub mod Walk
 pub mod Rights

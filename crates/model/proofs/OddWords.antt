@@ -10,7 +10,7 @@ use Rattle.model.specs.Limits.{pageSize, rowSize}
 use Rattle.model.specs.reference.Rules.{Translation, found, failed, bits, State, carriedOut, outcome, flushes, Kept, empty, one, several, wordOf, entryOf, kept, addTo, noted, differs, notedIn, wordAfter, trackWord, stale, contexts, conditions, Given}
 use Rattle.model.specs.Demands.{Call, conditionsOf, after, before, OddWords}
 use Rattle.model.specs.Types.{Entry}
-use Rattle.model.proofs.Tests.{either}
+use Rattle.model.proofs.BoolLaws.{either}
 use Rattle.model.proofs.Calls.{words}
 
 counts : (w : ℕ) → (w ≡ 0 → ⊥) → ((e : Entry) → e .frame < 0x100000 → e .ap < 8 → w ≡ wordOf e → ⊥) → kept w ≡ several

@@ -17,9 +17,9 @@ use Rattle.model.specs.Numbers.{Result, fault, shown}
 use Rattle.model.specs.reference.Rules.{Translation, found, failed, State, fresh, aligned, access, translated, effect, outcome, among, Held, Places, heldFor, Move, drop, load, isFree, putIn, move, moves, orWalk, chipOutcome, flushPlace, chipStep}
 use Rattle.model.specs.reference.Runs.{last, Moment, chipStart, chipNext, chipRun, chipSeen, seen, isRefused, Holds}
 use Rattle.model.specs.step.Machine.{After}
-use Rattle.model.specs.Invisible.{Session, begun, Accepted, checked, chipStartOf, chipRunOf, heldBy, atEnd, plainEnd, alignedAccess, checker, Pinned}
+use Rattle.model.specs.Invisible.{Session, begun, Accepted, checkerRunOf, chipStartOf, chipRunOf, heldBy, atEnd, plainEnd, alignedAccess, checker, Pinned}
 use Rattle.model.specs.Types.{Operation, Kind, Read, Write, Root, Asid, Mode, All, Addr, Ctx, AddrCtx, Entry}
-use Rattle.model.proofs.Tests.{and-both}
+use Rattle.model.proofs.BoolLaws.{and-both}
 use Rattle.model.proofs.Instance.{stateOf, outcome-page, effect-page}
 use Rattle.model.proofs.Chips.{held, flush-leaves, free-none}
 use Rattle.model.proofs.ThirdDemand.{holds-within, within-holds, same-begins, same-chip, plain-end, last-seen}
@@ -237,7 +237,7 @@ unfolding chipSeen chipStart
 chip-ends x acc n first script =
     sym (last-chip (chipStartOf x (suc n) first) (chipRunOf checker x (suc n) first script))
     ∙ ap₂ (λ (s : State) (l : List (Option Result × State)). last {A = Option Result × State} (none, s) l .1) (sym (same-begins x acc)) (same-chip x acc n first script)
-    ∙ last-seen (begun checker x) (checked checker x) none
+    ∙ last-seen (begun checker x) (checkerRunOf checker x) none
     ∙ sym (plain-end x acc)
 
 pub pinned : Pinned

@@ -18,10 +18,10 @@ use Rattle.model.specs.reference.Runs.{last, Checker, next, checkerRun, 
 use Rattle.model.specs.step.Checks.{isSize, sizeFits, firstFailing}
 use Rattle.model.specs.step.Machine.{After, started, stepped}
 use Rattle.model.specs.Demands.{Call, after}
-use Rattle.model.specs.Invisible.{Session, begun, Accepted, checked, toldOf, chipStartOf, chipRunOf, plainEnd, atEnd, alignedAccess, CouldDiffer, Same, Exactly, Invisible, checker}
+use Rattle.model.specs.Invisible.{Session, begun, Accepted, checkerRunOf, toldOf, chipStartOf, chipRunOf, plainEnd, atEnd, alignedAccess, CouldDiffer, Same, Exactly, Invisible, checker}
 use Rattle.model.specs.Wrong.{SameBegins, SamePlain, SameChip, StaleOnlyThen, StaleAlwaysThen, StartsInUserMode, SaysStaleAtOnce, Orderly, Copies, NeverStale, GoesByTrack, AlikeBut, LooksElsewhere}
 use Rattle.model.specs.Types.{Registers, Operation, Kind, Read, Write, Root, Asid, Mode, All as AllSets, Addr, Ctx, AddrCtx, Entry, Pass}
-use Rattle.model.proofs.Tests.{and-both, three-or}
+use Rattle.model.proofs.BoolLaws.{and-both, three-or}
 use Rattle.model.proofs.Calls.{firstHolding, given-first, none-some, not-refused, exactly, start-exactly, start-words, track-length, start-track-length, size-passed, checksOf, Begun, begun as begunBy, back as turned, done as noted-then}
 use Rattle.model.proofs.Kept.{begins as fresh-begins, passes-checks, given-16}
 use Rattle.model.proofs.Instance.{stateOf, outcome-page}

@@ -8,7 +8,7 @@ use lib.ListN.{getD, List·getD-eq-default}
 use borrow.Author.Tests.{le-leb, lt-leb, ne-eqb}
 use Rattle.model.specs.reference.Rules.{Right, nothing, reading, writing, rights, rightOf, allows}
 use Rattle.model.specs.step.Rights.{kernelRights, userRights, rightsOf, permitted}
-use Rattle.model.proofs.Tests.{push, allBelow, by-table}
+use Rattle.model.proofs.BoolLaws.{push, allBelow, by-table}
 
 -- a right as the step counts it
 abbrev level : Right → ℕ

@@ -11,7 +11,7 @@ use lib.ListN.{length, getD, take, drop, length-append, length-take, length-drop
 use lib.Seq.{getD-append-add, getD-drop, getD-take, length-take-le}
 use borrow.Author.Tests.{le-leb, leb-true, leb-false, eqb-true, eqb-false, eq-eqb, ne-eqb, le-ltb, lt-ltb}
 use Rattle.model.specs.step.Rows.{mapFirst, mapWords, inPart, inRow, eachRow}
-use Rattle.model.proofs.Tests.{leb-same}
+use Rattle.model.proofs.BoolLaws.{leb-same}
 
 module _ (f : ℕ → ℕ → ℕ) where
   pub length-mapFirst : (i n : ℕ) (l : List ℕ) → length (mapFirst f i n l) ≡ length l

@@ -15,7 +15,7 @@ use Rattle.model.specs.step.Walk.{walkPage}
 use Rattle.model.specs.step.WalkAnswer.{outcomeNumber, walkAnswer}
 use Rattle.model.specs.Demands.{SingleWalk}
 use Rattle.model.specs.Types.{Fault, Alignment, FirstUnmapped, SecondUnmapped, Permission, FirstOutside, SecondOutside, AccessOutside, Outcome, Mapped, Failed}
-use Rattle.model.proofs.Tests.{three-and, not-ltb}
+use Rattle.model.proofs.BoolLaws.{three-and, not-ltb}
 use Rattle.model.proofs.Walk.{translation, walk-same}
 use Rattle.model.proofs.Words.{InRange, word-same, walk-range}
 use Rattle.model.proofs.Calls.{firstHolding, given-first, first-given, none-some}

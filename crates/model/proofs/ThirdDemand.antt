@@ -10,7 +10,7 @@ use lib.ListN.{replicate}
 use borrow.Author.Tests.{eqb-true, eq-eqb}
 use Rattle.tlb.specs.Machine.{Walk, entry}
 use Rattle.tlb.specs.Chip.{Chip, plain, chipStep as stepOf, heldAfter, moves as movesOf, heldNext, trace, heldAtEnd}
-use Rattle.tlb.specs.Checker.{Reply, done, refused as refusedBy, answer, isRefused as isRefusedReply, told as toldBy, ownTrace, endState, endTrack, CanDiffer}
+use Rattle.tlb.specs.Tracker.{Reply, done, refused as refusedBy, answer, isRefused as isRefusedReply, told as toldBy, ownTrace, endState, endTrack, CanDiffer}
 use Rattle.tlb.specs.Places.{Within}
 use Rattle.tlb.proofs.Agree.{agrees, plain-sound}
 use Rattle.tlb.proofs.TlbSound.{tlb-sound}
@@ -20,9 +20,9 @@ use Rattle.model.specs.Numbers.{Result, ok, fault, refused, shown}
 use Rattle.model.specs.reference.Rules.{Translation, found, failed, State, fresh, aligned, effect, outcome, carriedOut, plainStep, Held, Places, heldFor, Move, move, moves, orWalk, chipOutcome, flushPlace, chipStep, among}
 use Rattle.model.specs.reference.Runs.{last, next, checkerRun, isRefused, seen, told, plainRun, Moment, chipStart, chipNext, chipRun, chipSeen, Holds}
 use Rattle.model.specs.step.Machine.{After, stepped, started}
-use Rattle.model.specs.Invisible.{Session, begun, Accepted, checked, toldOf, plainRunOf, chipStartOf, chipRunOf, Same, atEnd, plainEnd, alignedAccess, CouldDiffer, Exactly, Invisible, checker}
+use Rattle.model.specs.Invisible.{Session, begun, Accepted, checkerRunOf, toldOf, plainRunOf, chipStartOf, chipRunOf, Same, atEnd, plainEnd, alignedAccess, CouldDiffer, Exactly, Invisible, checker}
 use Rattle.model.specs.Types.{Operation, Kind, Read, Write, Entry}
-use Rattle.model.proofs.Tests.{and-both}
+use Rattle.model.proofs.BoolLaws.{and-both}
 use Rattle.model.proofs.Instance.{asWalk, ofWalk, of-as, pageOf, walkOf, carryOf, tables, replyOf, stateOf, callOf, checker as theory, tlbOf, outcome-page, carry-plain}
 use Rattle.model.proofs.Kept.{begins, carries, keeps}
 use Rattle.model.proofs.Chips.{held, HoldsIn, tlb-laws}
@@ -142,7 +142,7 @@ start-held n s first = moves-same n s (replicate (suc n) none) first
 pub same-begins : (x : Session) → Accepted checker x → stateOf (begun checker x) ≡ fresh (x .image) (x .root)
 same-begins x acc = begins (x .image) (x .track) (x .root) acc
 
-same-plain : (x : Session) → Accepted checker x → plainRunOf checker x ≡ map seen (checked checker x)
+same-plain : (x : Session) → Accepted checker x → plainRunOf checker x ≡ map seen (checkerRunOf checker x)
 unfolding movesOf
 same-plain x acc =
     sym (plain-trace (fresh (x .image) (x .root)) (toldOf checker x))
@@ -151,7 +151,7 @@ same-plain x acc =
     ∙ own-same (begun checker x) (x .operations)
 
 pub same-chip : (x : Session) → Accepted checker x → (n : ℕ) (first : List Move) (script : ℕ → List Move) →
-    map chipSeen (chipRunOf checker x (suc n) first script) ≡ map seen (checked checker x)
+    map chipSeen (chipRunOf checker x (suc n) first script) ≡ map seen (checkerRunOf checker x)
 unfolding chipStart
 same-chip x acc n first script =
     sym (chip-trace n (chipStartOf x (suc n) first) (toldOf checker x) script)
@@ -186,7 +186,7 @@ last-seen x (y ∷ ys) o = last-seen y ys (cond (isRefused (shown (y .answer))) 
 pub plain-end : (x : Session) → Accepted checker x → plainEnd checker x ≡ stateOf (atEnd checker x)
 plain-end x acc =
     ap₂ (λ (s : State) (l : List (Option Result × State)). last {A = Option Result × State} (none, s) l .1) (sym (same-begins x acc)) (same-plain x acc)
-    ∙ last-seen (begun checker x) (checked checker x) none
+    ∙ last-seen (begun checker x) (checkerRunOf checker x) none
 
 -- an aligned access has a page
 has-page : (o : Operation) → alignedAccess o ≡ true → pageOf o ≡ some (o .a / pageSize)

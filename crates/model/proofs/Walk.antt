@@ -11,7 +11,7 @@ use Rattle.model.specs.reference.Rules.{Translation, found, failed, inMe
 use Rattle.model.specs.step.Memory.{within, numberAt, loadAt}
 use Rattle.model.specs.step.Walk.{kindOf, superBit, tableOf, sectionEntry, largeEntry, smallEntry, descriptorAt, firstOf, firstFrom, firstAt, secondOf, secondFrom, secondAt, walkFrom, walkPage}
 use Rattle.model.specs.Types.{Entry, FirstUnmapped, SecondUnmapped, Four, Loaded, Value, Outside, FirstLevel, Failing, Table, Section, Outcome, Mapped, Failed}
-use Rattle.model.proofs.Tests.{push}
+use Rattle.model.proofs.BoolLaws.{push}
 use Rattle.model.proofs.Memory.{within-same, number-same}
 
 -- an outcome as the reference has it

@@ -14,7 +14,7 @@ use Rattle.model.specs.step.Memory.{loadAt}
 use Rattle.model.specs.step.Walk.{kindOf, superBit, tableOf, firstOf, firstFrom, firstAt, secondOf, secondFrom, secondAt, walkFrom, walkPage, sectionEntry, largeEntry, smallEntry, descriptorAt}
 use Rattle.model.specs.step.Track.{entryWord, isEntry, addEntry, addOutcome, staleWord}
 use Rattle.model.specs.Types.{Entry, FirstUnmapped, SecondUnmapped, Loaded, Value, Outside, FirstLevel, Failing, Table, Section, Outcome, Mapped, Failed}
-use Rattle.model.proofs.Tests.{same-test, eqb-same, and-both, either}
+use Rattle.model.proofs.BoolLaws.{same-test, eqb-same, and-both, either}
 use Rattle.model.proofs.Walk.{translation}
 
 -- a frame number of 20 bits and an AP of 3

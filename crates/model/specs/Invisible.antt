@@ -39,8 +39,8 @@ module _ (m : Checker) where
   Accepted x = isRefused (shown (begun x .answer)) ≡ false
 
   -- the checker's run, and what is told of it
-  abbrev pub checked : Session → List After
-  checked x = checkerRun m (begun x) (x .operations)
+  abbrev pub checkerRunOf : Session → List After
+  checkerRunOf x = checkerRun m (begun x) (x .operations)
 
   abbrev pub toldOf : Session → List (Operation × Bool)
   toldOf x = told m (begun x) (x .operations)
@@ -56,13 +56,13 @@ module _ (m : Checker) where
   -- each operation not refused the same answer, and agree after every operation in all registers and memory bytes.
   pub record Same : Type 0 where
     pub begins : (x : Session) → Accepted x → (record { memory = begun x .memory; registers = begun x .registers }) ≡ fresh (x .image) (x .root)
-    pub plain : (x : Session) → Accepted x → plainRunOf x ≡ map seen (checked x)
+    pub plain : (x : Session) → Accepted x → plainRunOf x ≡ map seen (checkerRunOf x)
     pub chip : (x : Session) → Accepted x → (n : ℕ) (first : List Move) (script : ℕ → List Move) →
-        map chipSeen (chipRunOf x (suc n) first script) ≡ map seen (checked x)
+        map chipSeen (chipRunOf x (suc n) first script) ≡ map seen (checkerRunOf x)
 
   -- what the checker and the plain machine have come to at the end of the list
   abbrev pub atEnd : Session → After
-  atEnd x = last (begun x) (checked x)
+  atEnd x = last (begun x) (checkerRunOf x)
 
   abbrev pub plainEnd : Session → State
   plainEnd x = last (none, fresh (x .image) (x .root)) (plainRunOf x) .1

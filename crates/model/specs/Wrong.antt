@@ -8,7 +8,7 @@ use Rattle.model.specs.Limits.{pageSize, rowSize}
 use Rattle.model.specs.Numbers.{refused, shown}
 use Rattle.model.specs.reference.Rules.{failed, fresh, outcome, Move, trackWord, conditions, startConditions, refuses16, Given}
 use Rattle.model.specs.reference.Runs.{Checker, next, seen, chipSeen}
-use Rattle.model.specs.Invisible.{Session, begun, Accepted, checked, plainRunOf, chipRunOf, atEnd, alignedAccess, CouldDiffer}
+use Rattle.model.specs.Invisible.{Session, begun, Accepted, checkerRunOf, plainRunOf, chipRunOf, atEnd, alignedAccess, CouldDiffer}
 use Rattle.model.specs.Types.{Registers, Operation, Root}
 
 -- ── The third demand part by part, so that each can be seen to fail alone ──
@@ -18,11 +18,11 @@ abbrev pub SameBegins : Checker → Type 0
 SameBegins m = (x : Session) → Accepted m x → (record { memory = begun m x .memory; registers = begun m x .registers }) ≡ fresh (x .image) (x .root)
 
 abbrev pub SamePlain : Checker → Type 0
-SamePlain m = (x : Session) → Accepted m x → plainRunOf m x ≡ map seen (checked m x)
+SamePlain m = (x : Session) → Accepted m x → plainRunOf m x ≡ map seen (checkerRunOf m x)
 
 abbrev pub SameChip : Checker → Type 0
 SameChip m = (x : Session) → Accepted m x → (n : ℕ) (first : List Move) (script : ℕ → List Move) →
-    map chipSeen (chipRunOf m x (suc n) first script) ≡ map seen (checked m x)
+    map chipSeen (chipRunOf m x (suc n) first script) ≡ map seen (checkerRunOf m x)
 
 -- the two directions of `Exactly`'s field: 16 is said only where a TLB could differ, and wherever one could
 abbrev pub StaleOnlyThen : Checker → Type 0

@@ -46,7 +46,7 @@ abbrev pub namedOf : List ℕ → Named
 namedOf s = namedIn kinds s
 
 -- The same in letters: the names line, and the names of the operations in the order of their numbers.
-pub record Spelled : Type 0 where
+pub record NamesSpelled : Type 0 where
   pub header : names ≡ quoted "op,a,b,c"
   pub operations : map name kinds ≡ map quoted ("read" ∷ "write" ∷ "root" ∷ "asid" ∷ "mode" ∷ "all" ∷ "addr" ∷ "ctx" ∷ "addrctx" ∷ [])
   pub numbers : map kindNumber kinds ≡ 0 ∷ 1 ∷ 2 ∷ 3 ∷ 4 ∷ 5 ∷ 6 ∷ 7 ∷ 8 ∷ []

@@ -71,7 +71,8 @@ fn read_list(wanted: bool, buf: &mut [u8]) -> Got
     }
 }
 
-// The buffers come from functions that ensure their lengths: a proof never computes with their elements.
+// The buffers come from functions that ensure their lengths: a proof never computes with their elements. The list's and the image's
+// are one byte longer than listLimit and imageLimit, so that 'too long' is seen; the others have trackLength and reportLimit.
 fn list_buffer() -> [u8; 65537]
     ensures { λ r. ⌜ 65537 ≡ length r ⌝ }
 {

@@ -1,5 +1,5 @@
 -- Laws of the report.
-pub mod RowsLaws
+pub mod LinesLaws
 pub mod Running
 pub mod ReportLaws
 pub mod ShownLaws

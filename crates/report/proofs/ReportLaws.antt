@@ -25,11 +25,11 @@ use Rattle.names.specs.Names.{newline}
 use Rattle.listing.specs.declared.Reason.{Reason}
 use Rattle.listing.specs.declared.Reason.the-variants.{TooLong, Names}
 use Rattle.listing.specs.Whole.{listLimit, listNumber, tooLong, hasNames, Ending, Reading, stoppedAt, readRest, readList}
-use Rattle.rows.specs.Text.{header, noName, startName, rowText, rowRoom}
+use Rattle.report_line.specs.Text.{header, noName, startName, reportLine, lineRoom}
 use Rattle.report.specs.declared.Told.{Told}
 use Rattle.report.specs.declared.Told.the-variants.{Report, ShortBuffer, WrongTrack, WrongCounts}
-use Rattle.report.specs.Report.{rowsOf, rowsText, Left, carriedOut, afterStart, bodyOf, headed, reportOf, imageLimit, memoryLength, trackLength, passes, looksAtList, reportLimit, Ran, Call, unchanged, reported, called, Gives}
-use Rattle.report.proofs.RowsLaws.{ended, stopped-at}
+use Rattle.report.specs.Report.{answerLines, answerText, Left, replayed, afterStart, bodyOf, headed, reportOf, imageLimit, memoryLength, trackLength, passes, looksAtList, reportLimit, Ran, ReportCall, unchanged, reported, called, GivesReport}
+use Rattle.report.proofs.LinesLaws.{ended, stopped-at}
 
 -- ── The list ──
 
@@ -55,10 +55,10 @@ pub ran-same : (r r′ : Left) {d : List ℕ} {at p : ℕ} {m t out : List ℕ} 
 ran-same r r′ {d} {at} {p} {m} {t} {out} e w = subst (λ (z : Left). Ran z d at p m t out) e w
 
 -- a line that ends the report
-pub ran-ended : (r : Left) (s : List ℕ) (x : After) {d : List ℕ} {at p : ℕ} {m t out : List ℕ} → r ≡ ended s x → m ≡ x .memory → t ≡ x .track → at + rowRoom ≤ length d →
-    (p ≡ placeAfter rowRoom d at s) × (out ≡ wrote rowRoom d at s) → Ran r d at p m t out
+pub ran-ended : (r : Left) (s : List ℕ) (x : After) {d : List ℕ} {at p : ℕ} {m t out : List ℕ} → r ≡ ended s x → m ≡ x .memory → t ≡ x .track → at + lineRoom ≤ length d →
+    (p ≡ placeAfter lineRoom d at s) × (out ≡ wrote lineRoom d at s) → Ran r d at p m t out
 ran-ended r s x {d} {at} {p} {m} {t} {out} e a b h q =
-    let f = wrote-fits rowRoom d at s p out h q in
+    let f = wrote-fits lineRoom d at s p out h q in
     record {
       memory = a ∙ sym (ap (λ (k : Left). k .memory) e);
       track = b ∙ sym (ap (λ (k : Left). k .track) e);
@@ -66,40 +66,40 @@ ran-ended r s x {d} {at} {p} {m} {t} {out} e a b h q =
       bytes = f .1 ∙ sym (ap (λ (k : Left). over d at (k .text)) e);
     }
 
-pub ran-stopped : (x : After) (l : List ℕ) (w : Reason) (k : ℕ) {d : List ℕ} {at p : ℕ} {out : List ℕ} → readList l ≡ stoppedAt 1 w → at + rowRoom ≤ length d → k ≡ listNumber w →
-    (p ≡ placeAfter rowRoom d at (rowText 1 noName (refused k))) × (out ≡ wrote rowRoom d at (rowText 1 noName (refused k))) →
-    Ran (carriedOut 2 x (readList l)) d at p (x .memory) (x .track) out
+pub ran-stopped : (x : After) (l : List ℕ) (w : Reason) (k : ℕ) {d : List ℕ} {at p : ℕ} {out : List ℕ} → readList l ≡ stoppedAt 1 w → at + lineRoom ≤ length d → k ≡ listNumber w →
+    (p ≡ placeAfter lineRoom d at (reportLine 1 noName (refused k))) × (out ≡ wrote lineRoom d at (reportLine 1 noName (refused k))) →
+    Ran (replayed 2 x (readList l)) d at p (x .memory) (x .track) out
 ran-stopped x l w k e h f q =
-    ran-ended (carriedOut 2 x (readList l)) (rowText 1 noName (refused k)) x
-    (ap (carriedOut 2 x) e ∙ stopped-at 2 1 x w ∙ ap (λ (n : ℕ). ended (rowText 1 noName (refused n)) x) (sym f)) refl refl h q
+    ran-ended (replayed 2 x (readList l)) (reportLine 1 noName (refused k)) x
+    (ap (replayed 2 x) e ∙ stopped-at 2 1 x w ∙ ap (λ (n : ℕ). ended (reportLine 1 noName (refused n)) x) (sym f)) refl refl h q
 
 -- ── The start ──
 
 -- what is carried out does not depend on the answer that went before
 answer-apart : (a b : Answer) (r : Registers) (m t : List ℕ) (n : ℕ) (os : List Operation) (e : Ending) →
-    carriedOut n (record { answer = a; registers = r; memory = m; track = t }) (record { operations = os; ending = e })
-    ≡ carriedOut n (record { answer = b; registers = r; memory = m; track = t }) (record { operations = os; ending = e })
+    replayed n (record { answer = a; registers = r; memory = m; track = t }) (record { operations = os; ending = e })
+    ≡ replayed n (record { answer = b; registers = r; memory = m; track = t }) (record { operations = os; ending = e })
 unfolding checkerRun last
 answer-apart a b r m t n [] e = refl
 answer-apart a b r m t n (o ∷ os) e = refl
 
 pub carried-from : (x : After) (r : Registers) (m t : List ℕ) (l : Reading) → r ≡ x .registers → m ≡ x .memory → t ≡ x .track →
-    carriedOut 2 (record { answer = Done 0; registers = r; memory = m; track = t }) l ≡ carriedOut 2 x l
+    replayed 2 (record { answer = Done 0; registers = r; memory = m; track = t }) l ≡ replayed 2 x l
 carried-from x r m t l e f g =
-    ap (λ (z : Registers). carriedOut 2 (record { answer = Done 0; registers = z; memory = m; track = t }) l) e
-    ∙ ap₂ (λ (y z : List ℕ). carriedOut 2 (record { answer = Done 0; registers = x .registers; memory = y; track = z }) l) f g
+    ap (λ (z : Registers). replayed 2 (record { answer = Done 0; registers = z; memory = m; track = t }) l) e
+    ∙ ap₂ (λ (y z : List ℕ). replayed 2 (record { answer = Done 0; registers = x .registers; memory = y; track = z }) l) f g
     ∙ answer-apart (Done 0) (x .answer) (x .registers) (x .memory) (x .track) 2 (l .operations) (l .ending)
 
 module _ (m t l : List ℕ) where
-  pub body-refused : (n : Refusal) → started m t 0 .answer ≡ Refused n → bodyOf m t l ≡ ended (rowText 0 startName (refused (refusalNumber n))) (started m t 0)
+  pub body-refused : (n : Refusal) → started m t 0 .answer ≡ Refused n → bodyOf m t l ≡ ended (reportLine 0 startName (refused (refusalNumber n))) (started m t 0)
   unfolding bodyOf
   body-refused n e = ap (λ (a : Answer). afterStart a (started m t 0) l) e
 
-  pub body-done : (v : ℕ) → started m t 0 .answer ≡ Done v → bodyOf m t l ≡ carriedOut 2 (started m t 0) (readList l)
+  pub body-done : (v : ℕ) → started m t 0 .answer ≡ Done v → bodyOf m t l ≡ replayed 2 (started m t 0) (readList l)
   unfolding bodyOf
   body-done v e = ap (λ (a : Answer). afterStart a (started m t 0) l) e
 
-  pub body-faulted : (f : Fault) → started m t 0 .answer ≡ Faulted f → bodyOf m t l ≡ carriedOut 2 (started m t 0) (readList l)
+  pub body-faulted : (f : Fault) → started m t 0 .answer ≡ Faulted f → bodyOf m t l ≡ replayed 2 (started m t 0) (readList l)
   unfolding bodyOf
   body-faulted f e = ap (λ (a : Answer). afterStart a (started m t 0) l) e
 
@@ -153,21 +153,21 @@ module _ (i : List ℕ) (n : ℕ) (l : List ℕ) (k : ℕ) (t out : List ℕ) wh
       unfolding called
       call-report c d = rw (le-ltb (length out) reportLimit a, eq-eqb (length t) trackLength b, le-ltb (length i) n c, le-ltb (length l) k d)
 
-pub gives-unchanged : (y : Call) (x : Told) (i t d : List ℕ) → y ≡ unchanged x i t d → Gives y x i t d
+pub gives-unchanged : (y : ReportCall) (x : Told) (i t d : List ℕ) → y ≡ unchanged x i t d → GivesReport y x i t d
 gives-unchanged y x i t d e =
     record {
-      told = sym (ap (λ (z : Call). z .told) e);
-      image = sym (ap (λ (z : Call). z .image) e);
-      track = sym (ap (λ (z : Call). z .track) e);
-      out = sym (ap (λ (z : Call). z .out) e);
+      told = sym (ap (λ (z : ReportCall). z .told) e);
+      image = sym (ap (λ (z : ReportCall). z .image) e);
+      track = sym (ap (λ (z : ReportCall). z .track) e);
+      out = sym (ap (λ (z : ReportCall). z .out) e);
     }
 
-pub gives-report : (y : Call) (r : Left) (size : ℕ) (i d : List ℕ) {p : ℕ} {m t out : List ℕ} → y ≡ reported r size i d → Ran r d 0 p m t out → Gives y (Report p) (m ++ drop size i) t out
+pub gives-report : (y : ReportCall) (r : Left) (size : ℕ) (i d : List ℕ) {p : ℕ} {m t out : List ℕ} → y ≡ reported r size i d → Ran r d 0 p m t out → GivesReport y (Report p) (m ++ drop size i) t out
 gives-report y r size i d {p} {m} {t} {out} e w =
     let f : p ≡ length (r .text) = omega (arith, w .place) in
     record {
-      told = ap Report f ∙ sym (ap (λ (z : Call). z .told) e);
-      image = ap (λ (z : List ℕ). z ++ drop size i) (w .memory) ∙ sym (ap (λ (z : Call). z .image) e);
-      track = w .track ∙ sym (ap (λ (z : Call). z .track) e);
-      out = w .bytes ∙ sym (ap (λ (z : Call). z .out) e);
+      told = ap Report f ∙ sym (ap (λ (z : ReportCall). z .told) e);
+      image = ap (λ (z : List ℕ). z ++ drop size i) (w .memory) ∙ sym (ap (λ (z : ReportCall). z .image) e);
+      track = w .track ∙ sym (ap (λ (z : ReportCall). z .track) e);
+      out = w .bytes ∙ sym (ap (λ (z : ReportCall). z .out) e);
     }

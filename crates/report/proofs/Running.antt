@@ -22,10 +22,10 @@ use Rattle.listing.specs.declared.Reason.{Reason}
 use Rattle.listing.specs.Line.{lineOf}
 use Rattle.listing.specs.Whole.{listNumber, readLines}
 use Rattle.listing.proofs.CanonicalLaws.{line-rest}
-use Rattle.rows.specs.Text.{noName, rowText, rowRoom}
-use Rattle.rows.proofs.RowLaws.{row-most, refusal-most}
-use Rattle.report.specs.Report.{Left, carriedOut, Ran}
-use Rattle.report.proofs.RowsLaws.{behind, rowOf, ended, lines-op, lines-refused, lines-end}
+use Rattle.report_line.specs.Text.{noName, reportLine, lineRoom}
+use Rattle.report_line.proofs.ReportLineLaws.{line-most, refusal-most}
+use Rattle.report.specs.Report.{Left, replayed, Ran}
+use Rattle.report.proofs.LinesLaws.{behind, lineFor, ended, lines-op, lines-refused, lines-end}
 
 -- Of the whole, `text` is written into d from place `at` on, and what is left of the list is carried out from x on, which has the
 -- registers r, the memory m and the track t.
@@ -42,14 +42,14 @@ pub record Running (whole : Left) (d : List ℕ) (at : ℕ) (r : Registers) (m t
   pub long : length out ≡ length d
   pub is-place : place ≡ at + length text
   pub bytes : out ≡ over d at text
-  pub rest : whole ≡ behind text (carriedOut line x (readLines turns line left))
+  pub rest : whole ≡ behind text (replayed line x (readLines turns line left))
 
 -- two texts in front are one
 together : (s t : List ℕ) (r : Left) → behind s (behind t r) ≡ behind (s ++ t) r
 together s t r = ap (λ (u : List ℕ). record { text = u; memory = r .memory; track = r .track }) (sym (append-assoc s t (r .text)))
 
 pub running-start : (x : After) (l d : List ℕ) (at : ℕ) → length l ≤ 65536 → at + (4 * length l + 64) ≤ length d →
-    Running (carriedOut 2 x (readLines (length l) 2 l)) d at (x .registers) (x .memory) (x .track) d l at 2
+    Running (replayed 2 x (readLines (length l) 2 l)) d at (x .registers) (x .memory) (x .track) d l at 2
 running-start x l d at h room =
     record {
       turns = length l;
@@ -69,10 +69,10 @@ running-start x l d at h room =
 
 module _ {whole : Left} {d : List ℕ} {at : ℕ} {r : Registers} {m t out left : List ℕ} {place line : ℕ} (w : Running whole d at r m t out left place line) where
   -- more text behind what is written
-  put-more : (s out′ : List ℕ) (p : ℕ) → length s ≤ 64 → (p ≡ placeAfter rowRoom out place s) × (out′ ≡ wrote rowRoom out place s) →
+  put-more : (s out′ : List ℕ) (p : ℕ) → length s ≤ 64 → (p ≡ placeAfter lineRoom out place s) × (out′ ≡ wrote lineRoom out place s) →
       (p ≡ at + length (w .text ++ s)) × (out′ ≡ over d at (w .text ++ s))
   put-more s out′ p h e =
-      let f = wrote-fits rowRoom out place s p out′ (omega (arith, w .is-place, w .long, w .room)) e in (
+      let f = wrote-fits lineRoom out place s p out′ (omega (arith, w .is-place, w .long, w .room)) e in (
         omega (arith, f .0, w .is-place, length-append (w .text) s),
         f .1 ∙ ap₂ (λ (o : List ℕ) (q : ℕ). over o q s) (w .bytes) (w .is-place) ∙ over-over d at (w .text) (omega (arith, w .room)) s,
       )
@@ -85,30 +85,30 @@ module _ {whole : Left} {d : List ℕ} {at : ℕ} {r : Registers} {m t out left 
       ∙ ap (λ (q : List ℕ). stepped o r m q) (w .is-track)
 
   pub running-more : (o : Operation) (y : Returned) (m′ t′ out′ : List ℕ) (p : ℕ) → 0 < length left → lineOf left ≡ Op o → Gives (stepped o r m t) y m′ t′ →
-      (p ≡ placeAfter rowRoom out place (rowText line (name (o .kind)) (shown (y .answer)))) × (out′ ≡ wrote rowRoom out place (rowText line (name (o .kind)) (shown (y .answer)))) →
+      (p ≡ placeAfter lineRoom out place (reportLine line (name (o .kind)) (shown (y .answer)))) × (out′ ≡ wrote lineRoom out place (reportLine line (name (o .kind)) (shown (y .answer)))) →
       Running whole d at (y .registers) m′ t′ out′ (past newline left) p (line + 1)
   running-more o y m′ t′ out′ p h e g q = go (w .turns) refl
     where
       z : After
       z = next checker o (w .x)
 
-      row : List ℕ
-      row = rowOf line o (w .x)
+      added : List ℕ
+      added = lineFor line o (w .x)
 
-      row-is : rowText line (name (o .kind)) (shown (y .answer)) ≡ row
-      row-is = ap (λ (a : Answer). rowText line (name (o .kind)) (shown a)) (g .answer ∙ sym (ap (λ (k : After). k .answer) (same-step o)))
+      added-is : reportLine line (name (o .kind)) (shown (y .answer)) ≡ added
+      added-is = ap (λ (a : Answer). reportLine line (name (o .kind)) (shown a)) (g .answer ∙ sym (ap (λ (k : After). k .answer) (same-step o)))
 
-      most : length row ≤ 34
-      most = row-most line (o .kind) (shown (z .answer))
+      most : length added ≤ 34
+      most = line-most line (o .kind) (shown (z .answer))
 
-      put : (p ≡ at + length (w .text ++ row)) × (out′ ≡ over d at (w .text ++ row))
-      put = put-more row out′ p (omega (arith, most)) (subst (λ (s : List ℕ). (p ≡ placeAfter rowRoom out place s) × (out′ ≡ wrote rowRoom out place s)) row-is q)
+      put : (p ≡ at + length (w .text ++ added)) × (out′ ≡ over d at (w .text ++ added))
+      put = put-more added out′ p (omega (arith, most)) (subst (λ (s : List ℕ). (p ≡ placeAfter lineRoom out place s) × (out′ ≡ wrote lineRoom out place s)) added-is q)
 
       less : length (past newline left) + 10 ≤ length left
       less = line-rest o left e
 
-      more : length (w .text ++ row) ≡ length (w .text) + length row
-      more = length-append (w .text) row
+      more : length (w .text ++ added) ≡ length (w .text) + length added
+      more = length-append (w .text) added
 
       go : (n : ℕ) → w .turns ≡ n → Running whole d at (y .registers) m′ t′ out′ (past newline left) p (line + 1)
       go zero f = absurd (omega (arith, w .enough))
@@ -116,27 +116,27 @@ module _ {whole : Left} {d : List ℕ} {at : ℕ} {r : Registers} {m t out left 
           record {
             turns = n;
             x = z;
-            text = w .text ++ row;
+            text = w .text ++ added;
             is-registers = ap (λ (k : After). k .registers) (same-step o) ∙ sym (g .registers);
             is-memory = ap (λ (k : After). k .memory) (same-step o) ∙ sym (g .memory);
             is-track = ap (λ (k : After). k .track) (same-step o) ∙ sym (g .track);
             enough = omega (arith, w .enough, less);
             lines = omega (arith, w .lines, less);
             room = omega (arith, w .room, more, most, less);
-            long = ap length (put .1) ∙ length-over d at (w .text ++ row) (omega (arith, w .room, more, most));
+            long = ap length (put .1) ∙ length-over d at (w .text ++ added) (omega (arith, w .room, more, most));
             is-place = put .0;
             bytes = put .1;
             rest =
                 w .rest
-                ∙ ap (λ (j : ℕ). behind (w .text) (carriedOut line (w .x) (readLines j line left))) f
+                ∙ ap (λ (j : ℕ). behind (w .text) (replayed line (w .x) (readLines j line left))) f
                 ∙ ap (behind (w .text)) (lines-op n line (w .x) left o h e)
-                ∙ ap (λ (j : ℕ). behind (w .text) (behind row (carriedOut j z (readLines n j (past newline left))))) (sym (add-one line))
-                ∙ together (w .text) row (carriedOut (line + 1) z (readLines n (line + 1) (past newline left)));
+                ∙ ap (λ (j : ℕ). behind (w .text) (behind added (replayed j z (readLines n j (past newline left))))) (sym (add-one line))
+                ∙ together (w .text) added (replayed (line + 1) z (readLines n (line + 1) (past newline left)));
           }
 
   -- the report ends here, with s behind what is written
-  pub running-stop : (s out′ : List ℕ) (p : ℕ) → length s ≤ 64 → (p ≡ placeAfter rowRoom out place s) × (out′ ≡ wrote rowRoom out place s) →
-      carriedOut line (w .x) (readLines (w .turns) line left) ≡ ended s (w .x) → Ran whole d at p m t out′
+  pub running-stop : (s out′ : List ℕ) (p : ℕ) → length s ≤ 64 → (p ≡ placeAfter lineRoom out place s) × (out′ ≡ wrote lineRoom out place s) →
+      replayed line (w .x) (readLines (w .turns) line left) ≡ ended s (w .x) → Ran whole d at p m t out′
   running-stop s out′ p h q e =
       let a : whole ≡ behind (w .text) (ended s (w .x)) = w .rest ∙ ap (behind (w .text)) e in
       let f = put-more s out′ p h q in
@@ -148,13 +148,13 @@ module _ {whole : Left} {d : List ℕ} {at : ℕ} {r : Registers} {m t out left 
       }
 
   pub running-refused : (x : Reason) (out′ : List ℕ) (p : ℕ) → 0 < length left → lineOf left ≡ Refused x →
-      (p ≡ placeAfter rowRoom out place (rowText line noName (refused (listNumber x)))) × (out′ ≡ wrote rowRoom out place (rowText line noName (refused (listNumber x)))) →
+      (p ≡ placeAfter lineRoom out place (reportLine line noName (refused (listNumber x)))) × (out′ ≡ wrote lineRoom out place (reportLine line noName (refused (listNumber x)))) →
       Ran whole d at p m t out′
-  running-refused x out′ p h e q = running-stop (rowText line noName (refused (listNumber x))) out′ p (omega (arith, refusal-most line (listNumber x))) q (go (w .turns) refl)
+  running-refused x out′ p h e q = running-stop (reportLine line noName (refused (listNumber x))) out′ p (omega (arith, refusal-most line (listNumber x))) q (go (w .turns) refl)
     where
-      go : (n : ℕ) → w .turns ≡ n → carriedOut line (w .x) (readLines (w .turns) line left) ≡ ended (rowText line noName (refused (listNumber x))) (w .x)
+      go : (n : ℕ) → w .turns ≡ n → replayed line (w .x) (readLines (w .turns) line left) ≡ ended (reportLine line noName (refused (listNumber x))) (w .x)
       go zero f = absurd (omega (arith, w .enough))
-      go (suc n) f = ap (λ (j : ℕ). carriedOut line (w .x) (readLines j line left)) f ∙ lines-refused n line (w .x) left x h e
+      go (suc n) f = ap (λ (j : ℕ). replayed line (w .x) (readLines j line left)) f ∙ lines-refused n line (w .x) left x h e
 
   pub running-end : length left ≤ 0 → Ran whole d at place m t out
   running-end h =

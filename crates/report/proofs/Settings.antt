@@ -13,8 +13,8 @@ use Rattle.model.proofs.CaseTools.{imageA, next}
 use Rattle.names.specs.Names.{namedIn}
 use Rattle.listing.specs.Line.{spare, zeros, opOf, judged, valuesOf, fieldA, fieldB, fieldC, fieldsOf, lineOf}
 use Rattle.listing.specs.Whole.{tooLong, hasNames, readLines, readList}
-use Rattle.rows.specs.Text.{rowText}
-use Rattle.report.specs.Report.{imageLimit, trackLength, memoryLength, rowsOf, rowsText, bodyOf, reportOf}
+use Rattle.report_line.specs.Text.{reportLine}
+use Rattle.report.specs.Report.{imageLimit, trackLength, memoryLength, answerLines, answerText, bodyOf, reportOf}
 
 -- the report of an image file of n bytes with a list, on a track that held anything
 abbrev reportText : ℕ → List ℕ → List ℕ → List ℕ
@@ -28,10 +28,12 @@ pub settings : List (List ℕ × List ℕ)
 unfolding next quotedFrom quoted
 settings =
     -- the image and the list of the rules: the level-one table stands at root 0
-    (reportText 32768 imageA (quoted
-        "op,a,b,c\nread,1000,4,0\nwrite,404,4,4832\nread,1000,4,0\naddr,1000,0,0\nread,1000,4,0\nread,1002,4,0\nread,2000,1,0\nmode,1,0,0\nread,404,4,0\nall,0,0,0\n"),
-    quoted
-        "line,op,answer,value\n2,read,ok,12345678\n3,write,ok,0\n4,read,refused,10\n5,addr,ok,0\n6,read,ok,11223344\n7,read,fault,1\n8,read,fault,3\n9,mode,ok,0\na,read,fault,4\nb,all,refused,f\n")
+    (
+      reportText 32768 imageA (quoted
+          "op,a,b,c\nread,1000,4,0\nwrite,404,4,4832\nread,1000,4,0\naddr,1000,0,0\nread,1000,4,0\nread,1002,4,0\nread,2000,1,0\nmode,1,0,0\nread,404,4,0\nall,0,0,0\n"),
+      quoted
+          "line,op,answer,value\n2,read,ok,12345678\n3,write,ok,0\n4,read,refused,10\n5,addr,ok,0\n6,read,ok,11223344\n7,read,fault,1\n8,read,fault,3\n9,mode,ok,0\na,read,fault,4\nb,all,refused,f\n",
+    )
     -- eight contexts
     ∷ (reportText 32768 imageA (quoted "op,a,b,c\nasid,7,0,0\nasid,8,0,0\n"), quoted "line,op,answer,value\n2,asid,ok,0\n3,asid,refused,b\n")
     -- an image of 32,768 bytes, one of 32,769, and one that is missing
@@ -44,5 +46,5 @@ settings =
 
 pub settings-hold : allSame settings ≡ true
 unfolding settings next quotedFrom quoted same has until past digit glyph digits number lean spelled valueOf spell hexOf over last checkerRun
-    namedIn spare zeros opOf judged valuesOf fieldA fieldB fieldC fieldsOf lineOf tooLong hasNames readLines readList rowText rowsOf rowsText bodyOf reportOf
+    namedIn spare zeros opOf judged valuesOf fieldA fieldB fieldC fieldsOf lineOf tooLong hasNames readLines readList reportLine answerLines answerText bodyOf reportOf
 settings-hold = refl

@@ -22,7 +22,7 @@ use Rattle.model.specs.declared.Check.{Check}
 use Rattle.model.specs.declared.Check.the-variants.{Pass, Refuse}
 use Rattle.model.specs.step.Checks.{startChecks, firstFailing}
 use Rattle.model.specs.step.Machine.{After, started, startedBy}
-use Rattle.model.specs.Invisible.{Session, Accepted, checker, checked, plainRunOf, chipRunOf}
+use Rattle.model.specs.Invisible.{Session, Accepted, checker, checkerRunOf, plainRunOf, chipRunOf}
 use Rattle.model.proofs.ThirdDemand.{invisible}
 use Rattle.listing.specs.declared.Line.{Line}
 use Rattle.listing.specs.declared.Line.the-variants.{Op, Refused as Line·Refused}
@@ -32,22 +32,22 @@ use Rattle.listing.specs.declared.Reason.{Reason}
 use Rattle.listing.specs.declared.Reason.the-variants.{TooLong, Names}
 use Rattle.listing.proofs.CanonicalLaws.{line-rest}
 use Rattle.names.specs.Names.{newline}
-use Rattle.rows.specs.Text.{header, startName, rowText}
-use Rattle.rows.proofs.RowLaws.{row-most, refusal-most, start-most}
+use Rattle.report_line.specs.Text.{header, startName, reportLine}
+use Rattle.report_line.proofs.ReportLineLaws.{line-most, refusal-most, start-most}
 use Rattle.report.specs.declared.Told.{Told}
 use Rattle.report.specs.declared.Told.the-variants.{Report, ShortBuffer, WrongTrack, WrongCounts}
-use Rattle.report.specs.Report.{rowsOf, rowsText, endText, Left, carriedOut, afterStart, bodyOf, memoryLength, trackLength, passes, looksAtList, reportOf, reportLimit, unchanged, reported, called}
+use Rattle.report.specs.Report.{answerLines, answerText, endText, Left, replayed, afterStart, bodyOf, memoryLength, trackLength, passes, looksAtList, reportOf, reportLimit, unchanged, reported, called}
 use Rattle.report.specs.Shown.{session, lines, unlessRefused, plainAnswer, chipAnswer, Honest}
-use Rattle.report.proofs.RowsLaws.{rowOf, ended, lines-op, lines-refused, lines-end, stopped-at}
+use Rattle.report.proofs.LinesLaws.{lineFor, ended, lines-op, lines-refused, lines-end, stopped-at}
 use Rattle.report.proofs.ReportLaws.{read-long, read-names, read-none, not-long, memory-fits}
 
 -- ── The lines ──
 
 -- what the lines show is what the checker's run shows
-rows-seen : (n : ℕ) (x : After) (os : List Operation) → map unlessRefused (rowsOf n os (checkerRun checker x os)) ≡ map plainAnswer (map seen (checkerRun checker x os))
-unfolding checkerRun rowsOf unlessRefused seen
-rows-seen n x [] = refl
-rows-seen n x (o ∷ os) = ap (λ (r : List (Option Result)). seen (next checker o x) .0 ∷ r) (rows-seen (suc n) (next checker o x) os)
+lines-seen : (n : ℕ) (x : After) (os : List Operation) → map unlessRefused (answerLines n os (checkerRun checker x os)) ≡ map plainAnswer (map seen (checkerRun checker x os))
+unfolding checkerRun answerLines unlessRefused seen
+lines-seen n x [] = refl
+lines-seen n x (o ∷ os) = ap (λ (r : List (Option Result)). seen (next checker o x) .0 ∷ r) (lines-seen (suc n) (next checker o x) os)
 
 chip-firsts : (xs : List Moment) → map plainAnswer (map chipSeen xs) ≡ map chipAnswer xs
 unfolding chipSeen
@@ -56,24 +56,24 @@ chip-firsts (x ∷ xs) = ap (λ (r : List (Option Result)). x .answer ∷ r) (ch
 
 shows-plain : (m t l : List ℕ) → Accepted checker (session m t l) → map unlessRefused (lines m t l) ≡ map plainAnswer (plainRunOf checker (session m t l))
 shows-plain m t l a =
-    rows-seen 2 (started m t 0) (readList l .operations) ∙ ap (map plainAnswer) (sym (invisible .same .plain (session m t l) a))
+    lines-seen 2 (started m t 0) (readList l .operations) ∙ ap (map plainAnswer) (sym (invisible .same .plain (session m t l) a))
 
 shows-chip : (m t l : List ℕ) → Accepted checker (session m t l) → (n : ℕ) (first : List Move) (script : ℕ → List Move) →
     map unlessRefused (lines m t l) ≡ map chipAnswer (chipRunOf checker (session m t l) (suc n) first script)
 shows-chip m t l a n first script =
-    rows-seen 2 (started m t 0) (readList l .operations)
+    lines-seen 2 (started m t 0) (readList l .operations)
     ∙ ap (map plainAnswer) (sym (invisible .same .chip (session m t l) a n first script))
     ∙ chip-firsts (chipRunOf checker (session m t l) (suc n) first script)
 
 -- ── The two ways of a start ──
 
-start-accepted : (a : Answer) (x : After) (l : List ℕ) → isRefused (shown a) ≡ false → afterStart a x l ≡ carriedOut 2 x (readList l)
+start-accepted : (a : Answer) (x : After) (l : List ℕ) → isRefused (shown a) ≡ false → afterStart a x l ≡ replayed 2 x (readList l)
 unfolding isRefused
 start-accepted (Done v) x l h = refl
 start-accepted (Faulted f) x l h = refl
 start-accepted (Refused r) x l h = absurd (true≢false h)
 
-start-refused : (a : Answer) (x : After) (l : List ℕ) → isRefused (shown a) ≡ true → afterStart a x l ≡ ended (rowText 0 startName (shown a)) x
+start-refused : (a : Answer) (x : After) (l : List ℕ) → isRefused (shown a) ≡ true → afterStart a x l ≡ ended (reportLine 0 startName (shown a)) x
 unfolding isRefused
 start-refused (Done v) x l h = absurd (true≢false (sym h))
 start-refused (Faulted f) x l h = absurd (true≢false (sym h))
@@ -95,11 +95,11 @@ before-list i t n h e =
     ap₂ (λ (a b : ℕ). passes (firstFailing (startChecks a b 0))) (sym (memory-most n i h)) (sym e)
     ∙ start-passes (firstFailing (startChecks (length (take (memoryLength n) i)) (length t) 0)) (take (memoryLength n) i) t
 
-shows-lines : (m t l : List ℕ) → Accepted checker (session m t l) → reportOf m t l .text ≡ header ++ (rowsText (lines m t l) ++ endText (readList l .ending))
+shows-lines : (m t l : List ℕ) → Accepted checker (session m t l) → reportOf m t l .text ≡ header ++ (answerText (lines m t l) ++ endText (readList l .ending))
 unfolding reportOf bodyOf
 shows-lines m t l a = ap (λ (r : Left). header ++ r .text) (start-accepted (started m t 0 .answer) (started m t 0) l a)
 
-shows-start : (m t l : List ℕ) → isRefused (shown (started m t 0 .answer)) ≡ true → reportOf m t l .text ≡ header ++ rowText 0 startName (shown (started m t 0 .answer))
+shows-start : (m t l : List ℕ) → isRefused (shown (started m t 0 .answer)) ≡ true → reportOf m t l .text ≡ header ++ reportLine 0 startName (shown (started m t 0 .answer))
 unfolding reportOf bodyOf
 shows-start m t l h = ap (λ (r : Left). header ++ r .text) (start-refused (started m t 0 .answer) (started m t 0) l h)
 
@@ -107,7 +107,7 @@ shows-start m t l h = ap (λ (r : Left). header ++ r .text) (start-refused (star
 
 -- a line of the list takes ten bytes or more, and its line of the report 34 at most
 abbrev Fits : ℕ → ℕ → After → List ℕ → Type 0
-Fits turns n x l = length (carriedOut n x (readLines turns n l) .text) ≤ 4 * length l + 34
+Fits turns n x l = length (replayed n x (readLines turns n l) .text) ≤ 4 * length l + 34
 
 end-fits : (turns n : ℕ) (x : After) (l : List ℕ) → length l ≤ 0 → Fits turns n x l
 end-fits turns n x l h = let f = ap (λ (k : Left). length (k .text)) (lines-end turns n x l h) in omega (arith, f)
@@ -115,11 +115,11 @@ end-fits turns n x l h = let f = ap (λ (k : Left). length (k .text)) (lines-end
 line-fits : (turns n : ℕ) (x : After) (l : List ℕ) → length l ≤ suc turns → 0 < length l →
     ((o : Operation) → length (past newline l) ≤ turns → Fits turns (suc n) (next checker o x) (past newline l)) → (i : Line) → lineOf l ≡ i → Fits (suc turns) n x l
 line-fits turns n x l h pos ih (Op o) e =
-    let rest : Left = carriedOut (suc n) (next checker o x) (readLines turns (suc n) (past newline l)) in
+    let rest : Left = replayed (suc n) (next checker o x) (readLines turns (suc n) (past newline l)) in
     let less = line-rest o l e in
-    let f : length (carriedOut n x (readLines (suc turns) n l) .text) ≡ length (rowOf n o x ++ rest .text) =
+    let f : length (replayed n x (readLines (suc turns) n l) .text) ≡ length (lineFor n o x ++ rest .text) =
     ap (λ (r : Left). length (r .text)) (lines-op turns n x l o pos e) in
-    omega (arith, f, length-append (rowOf n o x) (rest .text), row-most n (o .kind) (shown (next checker o x .answer)), ih o (omega (arith, h, less)), less)
+    omega (arith, f, length-append (lineFor n o x) (rest .text), line-most n (o .kind) (shown (next checker o x .answer)), ih o (omega (arith, h, less)), less)
 line-fits turns n x l h pos ih (Line·Refused r) e =
     let f = ap (λ (k : Left). length (k .text)) (lines-refused turns n x l r pos e) in
     omega (arith, f, refusal-most n (listNumber r))
@@ -133,19 +133,19 @@ lines-fit : (turns n : ℕ) (x : After) (l : List ℕ) → length l ≤ turns �
 lines-fit zero n x l h = end-fits zero n x l h
 lines-fit (suc turns) n x l h = turn-fits turns n x l h (λ o k. lines-fit turns (suc n) (next checker o x) (past newline l) k)
 
-list-fits : (x : After) (l : List ℕ) → length (carriedOut 2 x (readList l) .text) ≤ 262178
+list-fits : (x : After) (l : List ℕ) → length (replayed 2 x (readList l) .text) ≤ 262178
 list-fits x l = go (tooLong l) refl (hasNames l) refl
   where
-    stops : (w : Reason) → readList l ≡ stoppedAt 1 w → length (carriedOut 2 x (readList l) .text) ≤ 262178
+    stops : (w : Reason) → readList l ≡ stoppedAt 1 w → length (replayed 2 x (readList l) .text) ≤ 262178
     stops w e =
-        let f = ap (λ (k : Left). length (k .text)) (ap (carriedOut 2 x) e ∙ stopped-at 2 1 x w) in
+        let f = ap (λ (k : Left). length (k .text)) (ap (replayed 2 x) e ∙ stopped-at 2 1 x w) in
         omega (arith, f, refusal-most 1 (listNumber w))
 
-    go : (b : Bool) → tooLong l ≡ b → (c : Bool) → hasNames l ≡ c → length (carriedOut 2 x (readList l) .text) ≤ 262178
+    go : (b : Bool) → tooLong l ≡ b → (c : Bool) → hasNames l ≡ c → length (replayed 2 x (readList l) .text) ≤ 262178
     go true e c f = stops TooLong (read-long l e)
     go false e false f = stops Names (read-none l e f)
     go false e true f =
-        let q = ap (λ (r : Reading). length (carriedOut 2 x r .text)) (read-names l e f) in
+        let q = ap (λ (r : Reading). length (replayed 2 x r .text)) (read-names l e f) in
         omega (arith, q, lines-fit (length (past newline l)) 2 x (past newline l) (omega arith), past-length newline l, not-long l e)
 
 body-fits : (a : Answer) (x : After) (l : List ℕ) → length (afterStart a x l .text) ≤ 262178

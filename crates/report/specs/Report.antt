@@ -18,7 +18,7 @@ use Rattle.model.specs.Invisible.{checker}
 use Rattle.text.specs.Put.{over}
 use Rattle.names.specs.Names.{name}
 use Rattle.listing.specs.Whole.{listNumber, Ending, finished, stopped, Reading, readList}
-use Rattle.rows.specs.Text.{header, noName, startName, rowText}
+use Rattle.report_line.specs.Text.{header, noName, startName, reportLine}
 use Rattle.report.specs.declared.Told.{Told}
 use Rattle.report.specs.declared.Told.the-variants.{Report, ShortBuffer, WrongTrack, WrongCounts}
 
@@ -44,25 +44,25 @@ unfoldable pub looksAtList : ℕ → Bool
 looksAtList n = passes (firstFailing (startChecks (memoryLength n) trackLength 0))
 
 -- a line of the report: the number of the list's line, its operation, and the result
-pub record Row : Type 0 where
+pub record AnswerLine : Type 0 where
   pub line : ℕ
   pub operation : Operation
   pub result : Result
 
 -- the lines of the report, from line n on: each operation with the answer of its step
-unfoldable pub rowsOf : ℕ → List Operation → List After → List Row
-rowsOf n [] xs = []
-rowsOf n (o ∷ os) [] = []
-rowsOf n (o ∷ os) (x ∷ xs) = record { line = n; operation = o; result = shown (x .answer) } ∷ rowsOf (suc n) os xs
+unfoldable pub answerLines : ℕ → List Operation → List After → List AnswerLine
+answerLines n [] xs = []
+answerLines n (o ∷ os) [] = []
+answerLines n (o ∷ os) (x ∷ xs) = record { line = n; operation = o; result = shown (x .answer) } ∷ answerLines (suc n) os xs
 
-unfoldable pub rowsText : List Row → List ℕ
-rowsText [] = []
-rowsText (r ∷ rs) = rowText (r .line) (name (r .operation .kind)) (r .result) ++ rowsText rs
+unfoldable pub answerText : List AnswerLine → List ℕ
+answerText [] = []
+answerText (r ∷ rs) = reportLine (r .line) (name (r .operation .kind)) (r .result) ++ answerText rs
 
 -- a list refusal ends the report
 abbrev pub endText : Ending → List ℕ
 endText finished = []
-endText (stopped n x) = rowText n noName (refused (listNumber x))
+endText (stopped n x) = reportLine n noName (refused (listNumber x))
 
 -- what a run leaves: the report, memory and track
 pub record Left : Type 0 where
@@ -71,20 +71,20 @@ pub record Left : Type 0 where
   pub track : List ℕ
 
 -- the operations read carried out one after the other, from x on, the first of them line n
-abbrev pub carriedOut : ℕ → After → Reading → Left
-carriedOut n x l =
+abbrev pub replayed : ℕ → After → Reading → Left
+replayed n x l =
     let xs = checkerRun checker x (l .operations) in
     record {
-      text = rowsText (rowsOf n (l .operations) xs) ++ endText (l .ending);
+      text = answerText (answerLines n (l .operations) xs) ++ endText (l .ending);
       memory = last x xs .memory;
       track = last x xs .track;
     }
 
 -- a refused start ends the report before the list is looked at
 abbrev pub afterStart : Answer → After → List ℕ → Left
-afterStart (Refused r) x l = record { text = rowText 0 startName (refused (refusalNumber r)); memory = x .memory; track = x .track }
-afterStart (Done v) x l = carriedOut 2 x (readList l)
-afterStart (Faulted f) x l = carriedOut 2 x (readList l)
+afterStart (Refused r) x l = record { text = reportLine 0 startName (refused (refusalNumber r)); memory = x .memory; track = x .track }
+afterStart (Done v) x l = replayed 2 x (readList l)
+afterStart (Faulted f) x l = replayed 2 x (readList l)
 
 -- the report of memory m and list l, with a track t
 unfoldable pub bodyOf : List ℕ → List ℕ → List ℕ → Left
@@ -110,23 +110,23 @@ pub record Ran (r : Left) (d : List ℕ) (at p : ℕ) (m t out : List ℕ) : Typ
   pub bytes : out ≡ over d at (r .text)
 
 -- what a call answers, and what it leaves in each buffer
-pub record Call : Type 0 where
+pub record ReportCall : Type 0 where
   pub told : Told
   pub image : List ℕ
   pub track : List ℕ
   pub out : List ℕ
 
 -- an answer of its own, which changes nothing
-abbrev pub unchanged : Told → List ℕ → List ℕ → List ℕ → Call
+abbrev pub unchanged : Told → List ℕ → List ℕ → List ℕ → ReportCall
 unchanged x i t out = record { told = x; image = i; track = t; out = out }
 
 -- the report, in front of what the buffer held behind it
-abbrev pub reported : Left → ℕ → List ℕ → List ℕ → Call
+abbrev pub reported : Left → ℕ → List ℕ → List ℕ → ReportCall
 reported r size i out =
     record { told = Report (length (r .text)); image = r .memory ++ drop size i; track = r .track; out = over out 0 (r .text) }
 
 -- a call with an image buffer of which n bytes were read, a list buffer of which k were, a track, and a buffer for the report
-unfoldable pub called : List ℕ → ℕ → List ℕ → ℕ → List ℕ → List ℕ → Call
+unfoldable pub called : List ℕ → ℕ → List ℕ → ℕ → List ℕ → List ℕ → ReportCall
 called i n l k t out =
     cond (ltb (length out) reportLimit) (unchanged ShortBuffer i t out)
     (cond (eqb (length t) trackLength)
@@ -135,8 +135,8 @@ called i n l k t out =
     (reported (reportOf (take (memoryLength n) i) t (take k l)) (memoryLength n) i out)))
     (unchanged WrongTrack i t out))
 
--- what code returns and leaves is what a `Call` says
-pub record Gives (y : Call) (x : Told) (i t d : List ℕ) : Type 0 where
+-- what code returns and leaves is what a `ReportCall` says
+pub record GivesReport (y : ReportCall) (x : Told) (i t d : List ℕ) : Type 0 where
   pub told : x ≡ y .told
   pub image : i ≡ y .image
   pub track : t ≡ y .track

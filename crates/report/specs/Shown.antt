@@ -9,21 +9,21 @@ use Rattle.model.specs.Numbers.{Result, shown}
 use Rattle.model.specs.reference.Rules.{State, Move}
 use Rattle.model.specs.reference.Runs.{isRefused, Moment}
 use Rattle.model.specs.step.Machine.{started}
-use Rattle.model.specs.Invisible.{Session, Accepted, checker, checked, plainRunOf, chipRunOf}
+use Rattle.model.specs.Invisible.{Session, Accepted, checker, checkerRunOf, plainRunOf, chipRunOf}
 use Rattle.listing.specs.Whole.{readList}
-use Rattle.rows.specs.Text.{header, startName, rowText}
-use Rattle.report.specs.Report.{trackLength, memoryLength, looksAtList, Row, rowsOf, rowsText, endText, reportOf, reportLimit}
+use Rattle.report_line.specs.Text.{header, startName, reportLine}
+use Rattle.report.specs.Report.{trackLength, memoryLength, looksAtList, AnswerLine, answerLines, answerText, endText, reportOf, reportLimit}
 
 -- a start with memory m, track t and root 0, and the operations read of the list l: those of its lines before the end or the refusal
 abbrev pub session : List ℕ → List ℕ → List ℕ → Session
 session m t l = record { image = m; track = t; root = 0; operations = readList l .operations }
 
 -- the lines of the report before its end or the list refusal
-abbrev pub lines : List ℕ → List ℕ → List ℕ → List Row
-lines m t l = rowsOf 2 (readList l .operations) (checked checker (session m t l))
+abbrev pub lines : List ℕ → List ℕ → List ℕ → List AnswerLine
+lines m t l = answerLines 2 (readList l .operations) (checkerRunOf checker (session m t l))
 
 -- what a line shows, if it is not `refused`
-unfoldable pub unlessRefused : Row → Option Result
+unfoldable pub unlessRefused : AnswerLine → Option Result
 unlessRefused r = cond (isRefused (r .result)) none (some (r .result))
 
 -- what the plain machine and a chip answer
@@ -38,10 +38,10 @@ chipAnswer x = x .answer
 pub record Honest : Type 0 where
   -- after an accepted start the report is the header, these lines, and the list refusal, if there is one
   pub accepted : (m t l : List ℕ) → Accepted checker (session m t l) →
-      reportOf m t l .text ≡ header ++ (rowsText (lines m t l) ++ endText (readList l .ending))
+      reportOf m t l .text ≡ header ++ (answerText (lines m t l) ++ endText (readList l .ending))
   -- after a refused start it is the header and the start's line
   pub refusedStart : (m t l : List ℕ) → isRefused (shown (started m t 0 .answer)) ≡ true →
-      reportOf m t l .text ≡ header ++ rowText 0 startName (shown (started m t 0 .answer))
+      reportOf m t l .text ≡ header ++ reportLine 0 startName (shown (started m t 0 .answer))
   -- whether the start is accepted is known from the image's length alone, before the list is looked at
   pub beforeTheList : (i t : List ℕ) (n : ℕ) → n ≤ length i → length t ≡ trackLength →
       looksAtList n ≡ not (isRefused (shown (started (take (memoryLength n) i) t 0 .answer)))

@@ -5,7 +5,7 @@ ghost use lib.ListN.{length};
 ghost use Rattle.model.specs.declared.Answer.the-variants.{Done};
 ghost use Rattle.model.specs.step.Machine.{After};
 ghost use Rattle.listing.specs.Whole.{readList, readLines};
-ghost use Rattle.report.specs.Report.{memoryLength, looksAtList, carriedOut, bodyOf, reportOf, Ran, called, Gives};
+ghost use Rattle.report.specs.Report.{memoryLength, looksAtList, replayed, bodyOf, reportOf, Ran, called, GivesReport};
 use listing::Line;
 use listing::Reason;
 use model::Answer;
@@ -24,7 +24,7 @@ pub enum Told {
 fn memory_length(n: usize) -> usize
     ensures { λ r. ⌜ r ≡ memoryLength n ⌝ }
 {
-    if n <= 32768 {
+    if n <= 32768 { // imageLimit
         return n;
     }
     0
@@ -34,7 +34,7 @@ fn memory_length(n: usize) -> usize
 pub fn looks_at_list(n: usize) -> bool
     ensures { λ r. ⌜ r ≡ looksAtList n ⌝ }
 {
-    match checks::check_start(memory_length(n), 8192, 0) {
+    match checks::check_start(memory_length(n), 8192, 0) { // trackLength
         Check::Pass => true,
         Check::Refuse(_) => false,
     }
@@ -44,7 +44,7 @@ pub fn looks_at_list(n: usize) -> bool
 fn lines(r: Registers, m: &mut [u8], t: &mut [u32], list: &[u8], out: &mut [u8], at: usize) -> usize
     requires { ⌜ length (now list) ≤ 65536 ⌝ }
     requires { ⌜ at + (4 * length (now list) + 64) ≤ length (now out) ⌝ }
-    ensures { λ p. ⌜ Ran (carriedOut 2 (record { answer = Done 0; registers = r; memory = now (m .entry); track = now (t .entry) }) (readLines (length (now (list .entry))) 2 (now (list .entry)))) (now (out .entry)) at p (now (m .exit)) (now (t .exit)) (now (out .exit)) ⌝ }
+    ensures { λ p. ⌜ Ran (replayed 2 (record { answer = Done 0; registers = r; memory = now (m .entry); track = now (t .entry) }) (readLines (length (now (list .entry))) 2 (now (list .entry)))) (now (out .entry)) at p (now (m .exit)) (now (t .exit)) (now (out .exit)) ⌝ }
 {
     let mut regs = r;
     let mut left = list;
@@ -57,10 +57,10 @@ fn lines(r: Registers, m: &mut [u8], t: &mut [u32], list: &[u8], out: &mut [u8],
                 regs = y.registers;
                 let answer = y.answer;
                 let kind = o.kind;
-                place = rows::put_row(out, place, line, kind, answer);
+                place = report_line::put_answer(out, place, line, kind, answer);
             }
             Line::Refused(x) => {
-                return rows::put_refusal(out, place, line, listing::list_number(x));
+                return report_line::put_refusal(out, place, line, listing::list_number(x));
             }
         }
         let next = listing::rest(left);
@@ -80,15 +80,15 @@ fn read_list(
     at: usize,
 ) -> usize
     requires { ⌜ at + 262208 ≤ length (now out) ⌝ }
-    ensures { λ p. ⌜ Ran (carriedOut 2 (record { answer = Done 0; registers = r; memory = now (m .entry); track = now (t .entry) }) (readList (now (list .entry)))) (now (out .entry)) at p (now (m .exit)) (now (t .exit)) (now (out .exit)) ⌝ }
+    ensures { λ p. ⌜ Ran (replayed 2 (record { answer = Done 0; registers = r; memory = now (m .entry); track = now (t .entry) }) (readList (now (list .entry)))) (now (out .entry)) at p (now (m .exit)) (now (t .exit)) (now (out .exit)) ⌝ }
 {
     if listing::too_long(list) {
-        return rows::put_refusal(out, at, 1, listing::list_number(Reason::TooLong));
+        return report_line::put_refusal(out, at, 1, listing::list_number(Reason::TooLong));
     }
     if listing::has_names(list) {
         return lines(r, m, t, listing::rest(list), out, at);
     }
-    rows::put_refusal(out, at, 1, listing::list_number(Reason::Names))
+    report_line::put_refusal(out, at, 1, listing::list_number(Reason::Names))
 }
 
 // The report behind its header, from the start on.
@@ -100,7 +100,7 @@ fn body(m: &mut [u8], t: &mut [u32], list: &[u8], out: &mut [u8], at: usize) -> 
     let r = begun.registers;
     let answer = begun.answer;
     match answer {
-        Answer::Refused(n) => rows::put_start(out, at, checks::refusal_number(n)),
+        Answer::Refused(n) => report_line::put_start(out, at, checks::refusal_number(n)),
         Answer::Done(_) => read_list(r, m, t, list, out, at),
         Answer::Faulted(_) => read_list(r, m, t, list, out, at),
     }
@@ -111,7 +111,7 @@ fn whole(m: &mut [u8], t: &mut [u32], list: &[u8], out: &mut [u8]) -> usize
     requires { ⌜ 262272 ≤ length (now out) ⌝ }
     ensures { λ p. ⌜ Ran (reportOf (now (m .entry)) (now (t .entry)) (now (list .entry))) (now (out .entry)) 0 p (now (m .exit)) (now (t .exit)) (now (out .exit)) ⌝ }
 {
-    let at = rows::put_header(out, 0);
+    let at = report_line::put_header(out, 0);
     body(m, t, list, out, at)
 }
 
@@ -125,12 +125,12 @@ pub fn write_report(
     track: &mut [u32],
     out: &mut [u8],
 ) -> Told
-    ensures { λ x. ⌜ Gives (called (now (image .entry)) n (now (list .entry)) k (now (track .entry)) (now (out .entry))) x (now (image .exit)) (now (track .exit)) (now (out .exit)) ⌝ }
+    ensures { λ x. ⌜ GivesReport (called (now (image .entry)) n (now (list .entry)) k (now (track .entry)) (now (out .entry))) x (now (image .exit)) (now (track .exit)) (now (out .exit)) ⌝ }
 {
-    if out.len() < 262272 {
+    if out.len() < 262272 { // reportLimit
         return Told::ShortBuffer;
     }
-    if track.len() != 8192 {
+    if track.len() != 8192 { // trackLength
         return Told::WrongTrack;
     }
     if image.len() < n {

@@ -6,10 +6,10 @@ use mathlib.Core.Option.{Option, none, some}
 use mathlib.Core.List.{List, [], _∷_}
 use Rattle.tlb.specs.Machine.{Machine}
 use Rattle.tlb.specs.Chip.{Chip, plain, chipStep, heldAfter, moves, heldNext, trace, heldAtEnd}
-use Rattle.tlb.specs.Checker.{Checker, Reply, done, refused, answer, isRefused, told, ownTrace, endState, endTrack, Agrees}
+use Rattle.tlb.specs.Tracker.{Tracker, Reply, done, refused, answer, isRefused, told, ownTrace, endState, endTrack, Agrees}
 use Rattle.tlb.specs.Laws.{Carries, Sound}
 
-module _ (A : Machine) (M : Checker A) (B : Carries A M) (C : Chip A) (S : Sound A M B C) where
+module _ (A : Machine) (M : Tracker A) (B : Carries A M) (C : Chip A) (S : Sound A M B C) where
   -- one operation
   step-same : (s : A .State) (t : M .Track) (h : C .Held) (o : A .Op) → B .Valid s t → S .Fits s t h →
       chipStep A C s h o (isRefused (M .reply s t o)) ≡ (answer (M .reply s t o), M .nextState s t o)
@@ -85,7 +85,7 @@ module _ (A : Machine) (M : Checker A) (B : Carries A M) (C : Chip A) (S : Sound
       (end-fits (M .nextState s t o) (M .nextTrack s t o) (next s t h o (after 0)) os (λ i. after (suc i)) (B .validNext s t o v) (next-fits s t h o (after 0) v f))
 
 -- the machine itself holds nothing
-pub plain-sound : (A : Machine) (M : Checker A) (B : Carries A M) → Sound A M B (plain A)
+pub plain-sound : (A : Machine) (M : Tracker A) (B : Carries A M) → Sound A M B (plain A)
 plain-sound A M B = record {
   Fits = λ s t h. Unit {0};
   fitsStart = λ g t ok. tt;
@@ -94,7 +94,7 @@ plain-sound A M B = record {
   sameWay = λ s t h o a k v f e p. refl;
 }
 
-pub valid-end : (A : Machine) (M : Checker A) (B : Carries A M) (s : A .State) (t : M .Track) (os : List (A .Op)) → B .Valid s t → B .Valid (endState A M s t os) (endTrack A M s t os)
+pub valid-end : (A : Machine) (M : Tracker A) (B : Carries A M) (s : A .State) (t : M .Track) (os : List (A .Op)) → B .Valid s t → B .Valid (endState A M s t os) (endTrack A M s t os)
 unfolding endState endTrack
 valid-end A M B s t [] v = v
 valid-end A M B s t (o ∷ os) v = valid-end A M B (M .nextState s t o) (M .nextTrack s t o) os (B .validNext s t o v)

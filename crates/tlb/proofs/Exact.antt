@@ -7,14 +7,14 @@ use mathlib.Core.Option.{Option, none, some}
 use mathlib.Core.List.{List, [], _∷_}
 use Rattle.tlb.specs.Machine.{Machine, Walk, entry}
 use Rattle.tlb.specs.Chip.{Chip, plain, heldAfter, moves, heldAtEnd}
-use Rattle.tlb.specs.Checker.{Checker, Reply, done, refused, isRefused, told, endState, endTrack, Agrees, CanDiffer, Exact}
+use Rattle.tlb.specs.Tracker.{Tracker, Reply, done, refused, isRefused, told, endState, endTrack, Agrees, CanDiffer, Exact}
 use Rattle.tlb.specs.Seen.{Seen, nothing, note, spared, Has, From, Stale}
 use Rattle.tlb.specs.Laws.{Carries, Keeps, Tlb}
 use Rattle.tlb.proofs.Agree.{next, next-fits, moves-fit, held-cons, end-fits, valid-end}
 use Rattle.tlb.proofs.SeenLaws.{from-noted, from-map, from-spared, stale-of, stale-from}
 use Rattle.tlb.proofs.TlbSound.{Fitting, fitting-start, fitting-move, tlb-sound}
 
-module _ (A : Machine) (M : Checker A) (B : Carries A M) (stale : ℕ) (K : Keeps A M B stale)
+module _ (A : Machine) (M : Tracker A) (B : Carries A M) (stale : ℕ) (K : Keeps A M B stale)
     (C : Chip A) (Holds : A .Tag → A .Entry → C .Held → Type 0) (T : Tlb A C Holds) where
   abbrev Fits : A .State → M .Track → C .Held → Type 0
   Fits = Fitting A M B stale K C Holds T
@@ -196,7 +196,7 @@ module _ (A : Machine) (M : Checker A) (B : Carries A M) (stale : ℕ) (K : Keep
         (y .tag, y .serving, stale-of (K .look s₁ t₁ (y .tag)) (A .walk s₁ k) (y .entryHeld) (f .held (y .tag) (y .entryHeld) (rw (← B .begins g t ok) at (y .holds))) (y .differs))
 
 -- for chips of every size
-pub exact : (A : Machine) (M : Checker A) (B : Carries A M) (stale : ℕ) (K : Keeps A M B stale)
+pub exact : (A : Machine) (M : Tracker A) (B : Carries A M) (stale : ℕ) (K : Keeps A M B stale)
     (C : ℕ → Chip A) (Holds : (n : ℕ) → A .Tag → A .Entry → C n .Held → Type 0) → ((n : ℕ) → Tlb A (C n) (Holds n)) → Exact A M C Holds stale
 exact A M B stale K C Holds T g t ok os o k p h =
     let i = K .staleIff _ _ o k (valid-end A M B _ _ os (B .validStart g t ok)) p h in (

@@ -6,7 +6,7 @@ use mathlib.Core.Bool.{Bool, true, false, true≢false}
 use mathlib.Core.Option.{Option, none, some}
 use Rattle.tlb.specs.Machine.{Machine, Walk, entry}
 use Rattle.tlb.specs.Chip.{Chip}
-use Rattle.tlb.specs.Checker.{Checker, Reply, done, refused}
+use Rattle.tlb.specs.Tracker.{Tracker, Reply, done, refused}
 use Rattle.tlb.specs.Seen.{nothing, note, spared, Has, Stale}
 use Rattle.tlb.specs.Laws.{Carries, Sound, Keeps, Tlb}
 use Rattle.tlb.proofs.SeenLaws.{has-noted, has-kept, stale-of, is-entry?}
@@ -14,7 +14,7 @@ use Rattle.tlb.proofs.SeenLaws.{has-noted, has-kept, stale-of, is-entry
 pub done-refused : {R : Type 0} (a : R) (r : ℕ) (x : Reply R) → x ≡ done a → x ≡ refused r → ⊥
 done-refused a r x p q = let z : _≡_ {A = Bool} true false = cc in true≢false z
 
-module _ (A : Machine) (M : Checker A) (B : Carries A M) (stale : ℕ) (K : Keeps A M B stale)
+module _ (A : Machine) (M : Tracker A) (B : Carries A M) (stale : ℕ) (K : Keeps A M B stale)
     (C : Chip A) (Holds : A .Tag → A .Entry → C .Held → Type 0) (T : Tlb A C Holds) where
   pub record Fitting (s : A .State) (t : M .Track) (h : C .Held) : Type 0 where
     pub held : (u : A .Tag) (e : A .Entry) → Holds u e h → Has (K .look s t u) e

@@ -7,11 +7,11 @@ use mathlib.Core.Bool.{true, false}
 use mathlib.Core.Option.{Option, none, some}
 use Rattle.tlb.specs.Machine.{Machine, Walk, entry}
 use Rattle.tlb.specs.Chip.{Chip}
-use Rattle.tlb.specs.Checker.{Checker, Reply, done, refused}
+use Rattle.tlb.specs.Tracker.{Tracker, Reply, done, refused}
 use Rattle.tlb.specs.Seen.{Seen, nothing, note, spared, Stale}
 
 -- The checker carries out what the machine does, and a refusal changes nothing.
-pub record Carries (A : Machine) (M : Checker A) : Type 1 where
+pub record Carries (A : Machine) (M : Tracker A) : Type 1 where
   pub Valid : A .State → M .Track → Type 0
   pub begins : (g : A .Given) (t : M .Track) → M .Accepted g t → M .startState g t ≡ A .boot g
   pub validStart : (g : A .Given) (t : M .Track) → M .Accepted g t → Valid (M .startState g t) (M .startTrack g t)
@@ -25,7 +25,7 @@ pub record Carries (A : Machine) (M : Checker A) : Type 1 where
       ((k : A .Page) → A .page s o ≡ some k → f k ≡ h k) → A .carry s o f ≡ A .carry s o h
 
 -- A chip whose memory stays sound beside the checker, and that translates an access carried out as the tables do.
-pub record Sound (A : Machine) (M : Checker A) (B : Carries A M) (C : Chip A) : Type 1 where
+pub record Sound (A : Machine) (M : Tracker A) (B : Carries A M) (C : Chip A) : Type 1 where
   pub Fits : A .State → M .Track → C .Held → Type 0
   pub fitsStart : (g : A .Given) (t : M .Track) → M .Accepted g t → Fits (M .startState g t) (M .startTrack g t) (C .empty)
   pub fitsMove : (s : A .State) (t : M .Track) (h : C .Held) (m : C .Move) → B .Valid s t → Fits s t h → Fits s t (C .move s h m)
@@ -35,7 +35,7 @@ pub record Sound (A : Machine) (M : Checker A) (B : Carries A M) (C : Chip A) : 
       M .reply s t o ≡ done a → A .page s o ≡ some k → C .through s h k ≡ A .walk s k
 
 -- What the track keeps of the set of each tag.
-pub record Keeps (A : Machine) (M : Checker A) (B : Carries A M) (stale : ℕ) : Type 1 where
+pub record Keeps (A : Machine) (M : Tracker A) (B : Carries A M) (stale : ℕ) : Type 1 where
   pub decide : Discrete (A .Entry)
   pub look : A .State → M .Track → A .Tag → Seen (A .Entry)
   -- the entry that the tables now put under a tag

@@ -1,7 +1,7 @@
 use mathlib.Core.Path.{sym, ap, ap₂, _∙_, refl}
 use denote.Ref.{now}
 use Rattle.transfer.proofs.Laws.{regive, turned}
-use Rattle.model.specs.step.Machine.{After, carried, readFrom, writeTo, readStep, writeStep, operate, checked, stepped, started, startedBy}
+use Rattle.model.specs.step.Machine.{After, carried, readFrom, writeTo, readStep, writeStep, operate, afterChecks, stepped, started, startedBy}
 use Rattle.model.specs.declared.Access.{Access}
 use Rattle.model.specs.declared.Size.{Size}
 use Rattle.model.specs.declared.Kind.{Kind}

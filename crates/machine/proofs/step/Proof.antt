@@ -1,7 +1,7 @@
 use mathlib.Core.Path.{sym, ap, ap₂, _∙_, refl}
 use denote.Ref.{now}
 use Rattle.transfer.proofs.Laws.{regive, turned}
-use Rattle.model.specs.step.Machine.{After, carried, readFrom, writeTo, readStep, writeStep, operate, checked, stepped, started, startedBy}
+use Rattle.model.specs.step.Machine.{After, carried, readFrom, writeTo, readStep, writeStep, operate, afterChecks, stepped, started, startedBy}
 use Rattle.model.specs.declared.Access.{Access}
 use Rattle.model.specs.declared.Size.{Size}
 use Rattle.model.specs.declared.Kind.{Kind}
@@ -32,7 +32,7 @@ carry-out-requires c κs = search needs
 returns : tie.Need-returns
 unfolding stepped
 returns c = let n = c .before in let h = n .before .before in let a = h .before .before .before .args in
-    turned _ _ _ _ _ (sym (ap (λ (z : Check). checked z (a .o) (a .r) (now (a .m)) (now (a .t))) (sym (h .check .ensures .check) ∙ n .n .given .1)))
+    turned _ _ _ _ _ (sym (ap (λ (z : Check). afterChecks z (a .o) (a .r) (now (a .m)) (now (a .t))) (sym (h .check .ensures .check) ∙ n .n .given .1)))
 
 same-length : tie.Need-same-length
 same-length c = search needs
@@ -43,7 +43,7 @@ same-length-2 c = search needs
 returns-2 : tie.Need-returns-2
 unfolding stepped
 returns-2 c = let k = c .before .before .before .before in let e = k .before .before .before in let h = e .before .before in let a = h .before .before .before .args in
-    regive _ _ _ _ _ (sym (ap (λ (z : Check). checked z (a .o) (a .r) (now (a .m)) (now (a .t))) (sym (h .check .ensures .check) ∙ e .enum-told .given .1))) (k .carry-out .ensures)
+    regive _ _ _ _ _ (sym (ap (λ (z : Check). afterChecks z (a .o) (a .r) (now (a .m)) (now (a .t))) (sym (h .check .ensures .check) ∙ e .enum-told .given .1))) (k .carry-out .ensures)
 
 pub step-spec : {M : Type 1} → statement M
 step-spec =

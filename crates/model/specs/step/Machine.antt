@@ -106,13 +106,13 @@ operate Addr o r m t = carried (Done 0) r m (flushPage (o .a / pageSize) t)
 operate Ctx o r m t = carried (Done 0) r m (flushContext (o .a) t)
 operate AddrCtx o r m t = carried (Done 0) r m (flushPageIn (o .b) (o .a / pageSize) t)
 
-abbrev pub checked : Check → Operation → Registers → List ℕ → List ℕ → After
-checked (Refuse n) o r m t = turnedBack n r m t
-checked Pass o r m t = operate (o .kind) o r m t
+abbrev pub afterChecks : Check → Operation → Registers → List ℕ → List ℕ → After
+afterChecks (Refuse n) o r m t = turnedBack n r m t
+afterChecks Pass o r m t = operate (o .kind) o r m t
 
 -- one operation
 unfoldable pub stepped : Operation → Registers → List ℕ → List ℕ → After
-stepped o r m t = checked (firstFailing (checks o r (length m) (length t))) o r m t
+stepped o r m t = afterChecks (firstFailing (checks o r (length m) (length t))) o r m t
 
 -- registers at start, and those that a refused start returns
 abbrev pub startRegisters : ℕ → Registers

@@ -7,7 +7,7 @@ use denote.Ref.{now}
 use Rattle.model.specs.Numbers.{refused, refusalNumber}
 use Rattle.model.specs.step.Machine.{started}
 use Rattle.listing.specs.Whole.{readList}
-use Rattle.rows.specs.Text.{startName, rowText}
+use Rattle.report_line.specs.Text.{startName, reportLine}
 use Rattle.report.specs.Report.{bodyOf}
 use Rattle.report.proofs.ReportLaws.{ran-same, ran-ended, carried-from, body-refused, body-done, body-faulted}
 use borrow.Author.Needs.{needs}
@@ -18,7 +18,7 @@ use Rattle.report.proofs.body.Lts as lts
 use Rattle.checks.proofs.refusal_number.Reads as refusal-number-reads
 use Rattle.machine.proofs.start.Reads as start-reads
 use Rattle.report.proofs.read_list.Reads as read-list-reads
-use Rattle.rows.proofs.put_start.Reads as put-start-reads
+use Rattle.report_line.proofs.put_start.Reads as put-start-reads
 
 start-requires : tie.Need-start-requires
 start-requires c κs = search needs
@@ -64,7 +64,7 @@ returns c =
     let t = now (a .t) in
     let l = now (a .list) in
     let k = e .answer .given .0 .0 in
-    ran-ended (bodyOf m t l) (rowText 0 startName (refused (refusalNumber k))) (started m t 0)
+    ran-ended (bodyOf m t l) (reportLine 0 startName (refused (refusalNumber k))) (started m t 0)
     (body-refused m t l k (sym (g .start .ensures .answer) ∙ e .answer .given .1)) (g .start .ensures .memory) (g .start .ensures .track) (omega (arith, c .before .before .before .before .before .before .before .before .before .before .before .before .before .before .before .before .before .before .pre))
     (rw (sym (n .refusal-number .ensures .0)) (w .put-start .ensures))
 

@@ -10,7 +10,7 @@ use Rattle.listing.specs.declared.Line.the-variants.{Op}
 use Rattle.listing.specs.Line.{lineOf}
 use Rattle.listing.specs.Whole.{readLines}
 use Rattle.listing.proofs.CanonicalLaws.{line-rest}
-use Rattle.report.specs.Report.{carriedOut}
+use Rattle.report.specs.Report.{replayed}
 use Rattle.report.proofs.Running.{Running, running-start, running-more, running-refused, running-end}
 use Rattle.report.proofs.lines.Statement.{statement}
 use Rattle.report.proofs.lines.Tie as tie
@@ -20,12 +20,12 @@ use Rattle.listing.proofs.list_number.Reads as list-number-reads
 use Rattle.listing.proofs.read_line.Reads as read-line-reads
 use Rattle.listing.proofs.rest.Reads as rest-reads
 use Rattle.machine.proofs.step.Reads as step-reads
-use Rattle.rows.proofs.put_refusal.Reads as put-refusal-reads
-use Rattle.rows.proofs.put_row.Reads as put-row-reads
+use Rattle.report_line.proofs.put_refusal.Reads as put-refusal-reads
+use Rattle.report_line.proofs.put_answer.Reads as put-answer-reads
 
 abbrev Inv-loop : tie.InvT-loop
 Inv-loop m₀ t₀ list out₀ at regs₀ left₀ place₀ line₀ m t out regs left place line =
-    Running (carriedOut 2 (record { answer = Done 0; registers = regs₀; memory = m₀; track = t₀ }) (readLines (length list) 2 list)) out₀ at regs m t out left place line
+    Running (replayed 2 (record { answer = Done 0; registers = regs₀; memory = m₀; track = t₀ }) (readLines (length list) 2 list)) out₀ at regs m t out left place line
     × ((length m ≡ length m₀) × (length t ≡ length t₀))
 
 abbrev μ-loop : tie.MeasureT-loop
@@ -45,8 +45,8 @@ enum-known-o c = search needs
 step-requires : tie.Need-step-requires Inv-loop μ-loop
 step-requires c κs = search needs
 
-put-row-requires : tie.Need-put-row-requires Inv-loop μ-loop
-put-row-requires c κs = search needs
+put-answer-requires : tie.Need-put-answer-requires Inv-loop μ-loop
+put-answer-requires c κs = search needs
 
 enum-known-x : tie.Need-enum-known-x Inv-loop μ-loop
 enum-known-x c = search needs
@@ -96,7 +96,7 @@ loop-again : tie.Need-loop-again Inv-loop μ-loop
 loop-again c =
     let l = c .before .before .before .before .before .before .before .before .before .before .before .before .before .before .before .before .before .before in
     let s = c .before .before .before .before .before .before .before .before .before .before .step in
-    let p = c .before .before .before .put-row in
+    let p = c .before .before .before .put-answer in
     rw (c .rest .ensures) (
       running-more (l .loop .inv .0) (op c) (s .result) (s .last .1 .1 .0) (s .last .1 .1 .1 .0) (p .last .0) (p .result) (c .before .before .before .before .before .before .before .before .before .before .before .before .before .before .before .before .before .loop-test .taken) (op-line c) (s .ensures) (p .ensures),
       (s .kept .1 .1 .0 ∙ l .loop .inv .1 .0, s .kept .1 .1 .1 .0 ∙ l .loop .inv .1 .1),
@@ -124,7 +124,7 @@ lines-spec =
     read-line-requires
     enum-known-o
     step-requires
-    put-row-requires
+    put-answer-requires
     enum-known-x
     list-number-requires
     put-refusal-requires

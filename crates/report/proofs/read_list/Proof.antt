@@ -11,7 +11,7 @@ use Rattle.listing.specs.declared.Reason.the-variants.{TooLong, Names}
 use Rattle.listing.specs.Whole.{readRest}
 use Rattle.model.specs.declared.Answer.the-variants.{Done}
 use Rattle.model.specs.step.Machine.{After}
-use Rattle.report.specs.Report.{carriedOut}
+use Rattle.report.specs.Report.{replayed}
 use Rattle.report.proofs.ReportLaws.{read-long, read-names, read-none, not-long, ran-same, ran-stopped}
 use borrow.Author.Needs.{needs}
 use Rattle.report.proofs.read_list.Statement.{statement}
@@ -23,7 +23,7 @@ use Rattle.listing.proofs.list_number.Reads as list-number-reads
 use Rattle.listing.proofs.rest.Reads as rest-reads
 use Rattle.listing.proofs.too_long.Reads as too-long-reads
 use Rattle.report.proofs.lines.Reads as lines-reads
-use Rattle.rows.proofs.put_refusal.Reads as put-refusal-reads
+use Rattle.report_line.proofs.put_refusal.Reads as put-refusal-reads
 
 too-long-requires : tie.Need-too-long-requires
 too-long-requires c κs = search needs
@@ -76,8 +76,8 @@ returns-2 c =
     let x : After = record { answer = Done 0; registers = a .args .r; memory = now (a .args .m); track = now (a .args .t) } in
     let l = now (a .args .list) in
     ran-same _ _
-    (ap (λ (z : List ℕ). carriedOut 2 x (readRest z)) (f .rest .ensures)
-    ∙ sym (ap (carriedOut 2 x) (read-names l (sym (h .too-long .ensures) ∙ c .before .before .before .before .before .before .before .before .before .before .before .before .before .if1 .left) (sym (i .before .has-names .ensures) ∙ i .if2 .taken)))) (w .lines .ensures)
+    (ap (λ (z : List ℕ). replayed 2 x (readRest z)) (f .rest .ensures)
+    ∙ sym (ap (replayed 2 x) (read-names l (sym (h .too-long .ensures) ∙ c .before .before .before .before .before .before .before .before .before .before .before .before .before .if1 .left) (sym (i .before .has-names .ensures) ∙ i .if2 .taken)))) (w .lines .ensures)
 
 list-number-requires-2 : tie.Need-list-number-requires-2
 list-number-requires-2 c κs = search needs

@@ -5,7 +5,7 @@ use native.Mathlib.Omega.{arith}
 use lib.ListN.{length}
 use denote.Ref.{now}
 use Rattle.text.proofs.PutLaws.{wrote-fits, length-over}
-use Rattle.rows.specs.Text.{header}
+use Rattle.report_line.specs.Text.{header}
 use Rattle.report.specs.Report.{bodyOf, reportOf}
 use Rattle.report.proofs.ReportLaws.{ran-headed}
 use borrow.Author.Needs.{needs}
@@ -14,7 +14,7 @@ use Rattle.report.proofs.whole.Tie as tie
 use Rattle.report.proofs.whole.Reads as reads
 use Rattle.report.proofs.whole.Lts as lts
 use Rattle.report.proofs.body.Reads as body-reads
-use Rattle.rows.proofs.put_header.Reads as put-header-reads
+use Rattle.report_line.proofs.put_header.Reads as put-header-reads
 
 put-header-requires : tie.Need-put-header-requires
 put-header-requires c κs = search needs

@@ -1,0 +1,3 @@
+-- Laws of the lines of a report.
+pub mod ReportLineLaws
+pub mod ReportLineCases

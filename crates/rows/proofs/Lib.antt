@@ -1,3 +1,0 @@
--- Laws of the lines of a report.
-pub mod RowLaws
-pub mod RowCases

@@ -1,0 +1,44 @@
+/* The checker's C functions. Link libwalk.a (`rt staticlib walk`) for the first, libffi.a (`rt staticlib ffi`) for the others; both
+ * stand in target/staticlib/. A slice is a pointer and a length, in elements; slices that are written overlap no other. Every call is
+ * safe with every content and every length, and always returns. docs/RULES.md has the rules, docs/FORMATS.md what to do about a fault
+ * or a refusal. */
+#ifndef WUZHAMBEN_H
+#define WUZHAMBEN_H
+
+#include <stddef.h>
+#include <stdint.h>
+
+/* An answer is a value of 32 bits, WUZHAMBEN_FAULT plus the number of a fault, or WUZHAMBEN_REFUSAL plus the number of a refusal.
+ * WUZHAMBEN_NO_CALL says that the words handed over are no operation or no registers; nothing was done. */
+#define WUZHAMBEN_FAULT UINT64_C(0x100000000)
+#define WUZHAMBEN_REFUSAL UINT64_C(0x200000000)
+#define WUZHAMBEN_NO_CALL UINT64_C(0x300000000)
+
+/* The kinds of operation: the first of an operation's four words. The others are its fields a, b and c. */
+enum {
+    WUZHAMBEN_READ,    /* a address, b size 1, 2 or 4 */
+    WUZHAMBEN_WRITE,   /* a address, b size, c value */
+    WUZHAMBEN_ROOT,    /* a the new root */
+    WUZHAMBEN_ASID,    /* a the new context */
+    WUZHAMBEN_MODE,    /* a the new mode, 0 kernel or 1 user */
+    WUZHAMBEN_ALL,     /* flushes everything */
+    WUZHAMBEN_ADDR,    /* flushes the page of a in every context */
+    WUZHAMBEN_CTX,     /* flushes context a */
+    WUZHAMBEN_ADDRCTX  /* flushes the page of a in context b */
+};
+
+/* The walk of one virtual address through the tables at `root` in an image of 4,096 to 16,777,216 bytes (a multiple of 4,096). The
+ * value is the entry's track word: frame in bits 31..12, AP in bits 11..9, bit 1 set. */
+uint64_t walk_image(const uint8_t *image, size_t image_length, uint32_t root, uint32_t address);
+
+/* A start from `memory`, which is only read. It empties and notes `track`, which has 1,024 words for each of 1 to 256 contexts, and
+ * leaves root, context and mode in the three words of `registers`. A refused start leaves zero registers and the track as it was. */
+uint64_t machine_start(const uint8_t *memory, size_t memory_length, uint32_t *track, size_t track_length, uint32_t root,
+                       uint32_t *registers, size_t registers_length);
+
+/* One operation of four words, with the registers that the call before returned and the memory and track that it left. All three hold
+ * afterwards what the operation left; a refused one changes none of them. */
+uint64_t machine_step(const uint32_t *operation, size_t operation_length, uint32_t *registers, size_t registers_length,
+                      uint8_t *memory, size_t memory_length, uint32_t *track, size_t track_length);
+
+#endif
