@@ -67,7 +67,7 @@ pub fn word(entry: Entry) -> u32 {
     entry.frame << 12 | entry.ap << 9 | 2
 }
 
-/// The walk as the bench rig's C function answers it.
+/// The walk as the C function answers it.
 pub fn rig(memory: &[u8], root: u32, address: u32) -> u64 {
     let refused = |n: u64| 0x2_0000_0000 + n;
     if memory.is_empty() || !memory.len().is_multiple_of(4096) || memory.len() > 16_777_216 {

@@ -83,8 +83,8 @@ fn refusals_are_explained() {
     assert_eq!(told.len(), 12);
     assert!(told[0].contains("list:3: read,1000,4,0: refused: 16, the page is stale"));
     assert!(told[9].contains("list:12: asid,8,0,0: refused: 11, "));
-    assert_eq!(told[10], "replay: 2 more are refused");
-    let counts = "replay: 1 lines carried out, 0 of which faulted; 12 refused, 1 of which as stale";
+    assert_eq!(told[10], "replay: and 2 more");
+    let counts = "replay: lines carried out: 1, of these faulted: 0; lines refused: 12, of these as stale: 1";
     assert_eq!(told[11], counts);
 }
 
