@@ -17,10 +17,26 @@ use Rattle.model.specs.declared.FirstLevel.the-variants.{Failing, Table, Sectio
 use Rattle.model.specs.declared.Outcome.the-variants.{Mapped}
 use Rattle.model.specs.step.Memory.{numberAt, within, loadAt}
 use Rattle.model.specs.step.Rows.{mapFirst, mapWords}
-use Rattle.model.specs.step.Walk.{kindOf, superBit, tableOf, sectionAp, sectionEntry, descriptorAt, firstOf, firstFrom, firstAt, secondOf, secondFrom, secondAt, walkFrom, walkPage}
+use Rattle.model.specs.step.Walk.{kindOf, superBit, tableOf, sectionEntry, descriptorAt, firstOf, firstFrom, firstAt, secondOf, secondFrom, secondAt, walkFrom, walkPage}
 use Rattle.model.specs.step.Track.{addOutcome, notePage}
 use Rattle.track.specs.Mib.{mibPages, noteTable, noteMib}
 use Rattle.track.proofs.Rows.{same-words, from-start, rest-stays, part-length}
+
+-- what a level-one word says of page i, by what it says of page 0
+abbrev pub again : FirstLevel → ℕ → ℕ → FirstLevel
+again (Failing f) x i = Failing f
+again (Table t) x i = Table t
+again (Section e) x i = Section (sectionEntry x i)
+
+by-tests : (b c d : Bool) (t x i : ℕ) → cond b (Table t) (cond c (cond d (Section (sectionEntry x i)) (Failing FirstUnmapped)) (Failing FirstUnmapped)) ≡ again (cond b (Table t) (cond c (cond d (Section (sectionEntry x 0)) (Failing FirstUnmapped)) (Failing FirstUnmapped))) x i
+by-tests true c d t x i = refl
+by-tests false true true t x i = refl
+by-tests false true false t x i = refl
+by-tests false false d t x i = refl
+
+first-again : (x i : ℕ) → firstOf x i ≡ again (firstOf x 0) x i
+unfolding firstOf
+first-again x i = by-tests (eqb (kindOf x) 1) (eqb (kindOf x) 2) (eqb (superBit x) 0) (tableOf x) x i
 
 -- pages with one number in their MiB: what a word says of both is the same
 module _ (p q : ℕ) (e : p % mibPages ≡ q % mibPages) where
@@ -43,15 +59,14 @@ module _ (p q : ℕ) (e : p % mibPages ≡ q % mibPages) where
   section-same : (x : ℕ) → sectionEntry x p ≡ sectionEntry x q
   section-same x = rw e
 
-  tests-same : (m : List ℕ) (b c d : Bool) (t x : ℕ) → walkFrom (cond b (Table t) (cond c (cond d (Section (sectionEntry x p)) (Failing FirstUnmapped)) (Failing FirstUnmapped))) m p ≡ walkFrom (cond b (Table t) (cond c (cond d (Section (sectionEntry x q)) (Failing FirstUnmapped)) (Failing FirstUnmapped))) m q
-  tests-same m true c d t x = table-same m t
-  tests-same m false true true t x = ap Mapped (section-same x)
-  tests-same m false true false t x = refl
-  tests-same m false false d t x = refl
+  again-same : (m : List ℕ) (y : FirstLevel) (x : ℕ) → walkFrom (again y x p) m p ≡ walkFrom (again y x q) m q
+  again-same m (Failing f) x = refl
+  again-same m (Table t) x = table-same m t
+  again-same m (Section s) x = ap Mapped (section-same x)
 
   first-same : (m : List ℕ) (x : ℕ) → walkFrom (firstOf x p) m p ≡ walkFrom (firstOf x q) m q
-  unfolding firstOf
-  first-same m x = tests-same m (eqb (kindOf x) 1) (eqb (kindOf x) 2) (eqb (superBit x) 0) (tableOf x) x
+  first-same m x =
+      ap (λ (y : FirstLevel). walkFrom y m p) (first-again x p) ∙ again-same m (firstOf x 0) x ∙ sym (ap (λ (y : FirstLevel). walkFrom y m q) (first-again x q))
 
   walk-same : (m : List ℕ) (x : Loaded) → walkFrom (firstFrom x p) m p ≡ walkFrom (firstFrom x q) m q
   walk-same m (Value x) = first-same m x
@@ -71,23 +86,7 @@ by-mib m root page k rest z n =
     let l : List ℕ = take k rest in
     ap (λ (s : ℕ). mapFirst (notePage m root) s (length l) l) (sym (add-zero page)) ∙ from-start (notePage m root) page 0 (length l) l ∙ same-words (λ (i : ℕ). notePage m root (page + i)) (noteMib m (root + 4 * (page / mibPages))) 0 (length l) l (λ (i : ℕ) a (w : ℕ). one-page m root page i w z (omega (arith, a, n, part-length k rest)))
 
--- what a level-one word says of page i, by what it says of page 0
-abbrev pub again : FirstLevel → ℕ → ℕ → FirstLevel
-again (Failing f) x i = Failing f
-again (Table t) x i = Table t
-again (Section e) x i = Section (sectionEntry x i)
-
-by-tests : (b c d : Bool) (t x i : ℕ) → cond b (Table t) (cond c (cond d (Section (sectionEntry x i)) (Failing FirstUnmapped)) (Failing FirstUnmapped)) ≡ again (cond b (Table t) (cond c (cond d (Section (sectionEntry x 0)) (Failing FirstUnmapped)) (Failing FirstUnmapped))) x i
-by-tests true c d t x i = refl
-by-tests false true true t x i = refl
-by-tests false true false t x i = refl
-by-tests false false d t x i = refl
-
-first-again : (x i : ℕ) → firstOf x i ≡ again (firstOf x 0) x i
-unfolding firstOf
-first-again x i = by-tests (eqb (kindOf x) 1) (eqb (kindOf x) 2) (eqb (superBit x) 0) (tableOf x) x i
-
--- a word after noting page i by what the level-one word x, or its lack, says
+-- a word after noting page i of a MiB whose level-one word x says y of page 0
 abbrev pub noteFirst : List ℕ → FirstLevel → ℕ → ℕ → ℕ → ℕ
 noteFirst m y x i w = addOutcome w (walkFrom (again y x i) m i)
 

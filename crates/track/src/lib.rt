@@ -90,7 +90,8 @@ fn words_inside(m: &[u8], base: usize, n: usize) -> usize
     n
 }
 
-// Notes the pages of a MiB by the table at `base`: word i is that of page i. A page whose descriptor lies outside memory stays as it is.
+// Notes the pages of a MiB by the table at `base`: word i is that of page i. A page whose descriptor lies outside memory stays
+// as it is.
 fn note_table(m: &[u8], base: usize, mib: &mut [u32])
     requires { ⌜ length (now mib) ≤ mibPages ⌝ }
     ensures { λ _. ⌜ now (mib .exit) ≡ mapWords (noteTable (now (m .entry)) base) (now (mib .entry)) ⌝ }
@@ -129,7 +130,7 @@ fn mib_end(page: usize, n: usize) -> usize
     page + MIB
 }
 
-// Notes a row: each of its words is one page's. The pages of a MiB share their level-one descriptor, which is read once.
+// Notes a row: each of its words is one page's. The pages of a MiB share a level-one descriptor, which is read once.
 pub fn note_row(m: &[u8], root: u32, row: &mut [u32])
     ensures { λ _. ⌜ now (row .exit) ≡ noteRow (now (m .entry)) root (now (row .entry)) ⌝ }
 {

@@ -163,7 +163,7 @@ fn reports() {
             );
         }
         let [ours, page, mib] = shortest(
-            40,
+            100,
             [
                 &mut || drop(programs::replay_in(&folder, &list)),
                 &mut || drop(rival(by_page, &list, folder.path())),
