@@ -1,11 +1,12 @@
 -- What the tests of `load` and `store` say of the definitions.
-use Prim.Native.Nat.{ℕ, _+_, _≤_, _<_}
+use Prim.Native.Nat.{ℕ, _+_, _*_, _≤_, _<_}
+use native.Mathlib.Omega.{arith}
 use lib.Dec.{lit<}
 use Rattle.model.specs.declared.Size.the-variants.{One, Two, Four}
 use mathlib.Core.Path.{_≡_, refl, sym, ap, _∙_}
 use mathlib.Core.List.{List}
 use mathlib.Core.Bool.{Bool, true, false}
-use lib.ListN.{length}
+use lib.ListN.{length, getD}
 use borrow.Author.Tests.{leb-true}
 use Rattle.model.specs.declared.Size.{Size}
 use Rattle.model.specs.declared.Loaded.{Loaded}
@@ -41,3 +42,9 @@ pub bytes-pos : (s : Size) → 0 < bytesOf s
 bytes-pos One = lit< tt
 bytes-pos Two = lit< tt
 bytes-pos Four = lit< tt
+
+-- the number that four bytes of memory make
+pub four-bytes : (m : List ℕ) (at r : ℕ) → r ≡ getD m at 0 + 256 * getD m (at + 1) 0 + 65536 * (getD m (at + 2) 0 + 256 * getD m (at + 3) 0) → r ≡ numberAt Four m at
+four-bytes m at r e =
+    let last : at + 3 ≡ at + 2 + 1 = omega arith in
+    e ∙ ap (λ (k : ℕ). getD m at 0 + 256 * getD m (at + 1) 0 + 65536 * (getD m (at + 2) 0 + 256 * getD m k 0)) last

@@ -1,6 +1,6 @@
 // Numbers of one, two and four bytes in memory, low byte first. Bytes outside memory are an answer.
 ghost use mathlib.Core.Path.{_≡_};
-ghost use Prim.Native.Nat.{_+_, _<_, _≤_};
+ghost use Prim.Native.Nat.{_+_, _*_, _<_, _≤_};
 ghost use lib.ListN.{length};
 ghost use Rattle.model.specs.declared.Size.the-variants.{One, Two, Four};
 ghost use Rattle.model.specs.step.Memory.{bytesOf, within, numberAt, loadAt, storedAt, writtenAt};
@@ -12,6 +12,13 @@ fn wide(x: u8) -> u32
     ensures { λ r. ⌜ (r ≡ x) × (r < 256) ⌝ }
 {
     x as u32
+}
+
+// The number that four bytes make, the lowest first.
+pub fn number(a: u8, b: u8, c: u8, d: u8) -> u32
+    ensures { λ r. ⌜ r ≡ a + 256 * b + 65536 * (c + 256 * d) ⌝ }
+{
+    wide(a) + 256 * wide(b) + 65536 * wide(c) + 16777216 * wide(d)
 }
 
 // How many bytes a size is.
@@ -49,16 +56,16 @@ fn one(m: &[u8], at: usize) -> u32
 
 fn two(m: &[u8], at: usize) -> u32
     requires { ⌜ at + 2 ≤ length (now m) ⌝ }
-    ensures { λ r. ⌜ (r ≡ numberAt Two (now (m .entry)) at) × (r < 65536) ⌝ }
+    ensures { λ r. ⌜ r ≡ numberAt Two (now (m .entry)) at ⌝ }
 {
-    wide(m[at]) + 256 * wide(m[at + 1])
+    number(m[at], m[at + 1], 0, 0)
 }
 
 fn four(m: &[u8], at: usize) -> u32
     requires { ⌜ at + 4 ≤ length (now m) ⌝ }
     ensures { λ r. ⌜ r ≡ numberAt Four (now (m .entry)) at ⌝ }
 {
-    two(m, at) + 65536 * two(m, at + 2)
+    number(m[at], m[at + 1], m[at + 2], m[at + 3])
 }
 
 // The number of this size at `at`, or that it does not lie in memory.

@@ -1,5 +1,5 @@
 -- Laws of lists of words in rows.
-use Prim.Native.Nat.{ℕ, zero, suc, _+_, _*_, _-_, _≤_, _<_}
+use Prim.Native.Nat.{ℕ, zero, suc, _+_, _*_, _-_, _≤_, _<_, zero-le}
 use mathlib.Core.Path.{_≡_, refl, sym, ap, _∙_}
 use mathlib.Core.List.{List, [], _∷_, _++_}
 use native.Mathlib.Nat.{le-of-suc-le-suc, not-suc-le-zero, add-zero, add-suc, suc-add, zero-add}
@@ -35,9 +35,56 @@ module _ (f : ℕ → ℕ → ℕ) where
       let r-is : r ≡ f n (getD old n 0) = q ∙ ap (f n) (ap (λ (l : List ℕ). getD l n 0) e ∙ next-mapFirst 0 n old) in
       rw (add-one, e, r-is) (step 0 n n old (sym (zero-add n)) h)
 
+  whole-part : (i k : ℕ) (l : List ℕ) → mapFirst f i k l ≡ mapFirst f i (length (take k l)) (take k l) ++ drop k l
+  whole-part i zero l = refl
+  whole-part i (suc k) [] = refl
+  whole-part i (suc k) (w ∷ ws) = ap (λ (l : List ℕ). f i w ∷ l) (whole-part (suc i) k ws)
+
+  next-part : (i p k : ℕ) (l : List ℕ) → p ≤ length l → mapFirst f i (p + k) l ≡ putMid p k (mapFirst f i p l) (mapFirst f (i + p) (length (take k (drop p (mapFirst f i p l)))) (take k (drop p (mapFirst f i p l))))
+  next-part i zero k l h = rw (zero-add, add-zero) (whole-part i k l)
+  next-part i (suc p) k [] h = absurd (not-suc-le-zero h)
+  next-part i (suc p) k (w ∷ ws) h =
+      rw (suc-add p k, add-suc i p ∙ sym (suc-add i p)) (ap (λ (l : List ℕ). f i w ∷ l) (next-part (suc i) p k ws (le-of-suc-le-suc h)))
+
+  -- a turn of a loop that changes one part after the other
+  pub part-turn : (old row ys : List ℕ) (p k : ℕ) → row ≡ mapFirst f 0 p old → p ≤ length old → ys ≡ mapFirst f p (length (take k (drop p row))) (take k (drop p row)) → putMid p k row ys ≡ mapFirst f 0 (p + k) old
+  part-turn old row ys p k e h q = sym (next-part 0 p k old h ∙ rw (zero-add p, ← e, ← q))
+
   -- after the last turn
   pub all-turns : (old row : List ℕ) (n : ℕ) → row ≡ mapFirst f 0 n old → n ≡ length old → row ≡ mapWords f old
   all-turns old row n e h = e ∙ ap (λ (k : ℕ). mapFirst f 0 k old) h
+
+  no-words : (i n : ℕ) → mapFirst f i n [] ≡ mapFirst f i 0 []
+  no-words i zero = refl
+  no-words i (suc n) = refl
+
+  -- words that f leaves as they are
+  pub rest-stays : (i n : ℕ) (l : List ℕ) → ((p : ℕ) → i + n ≤ p → p < i + length l → (w : ℕ) → w ≡ f p w) → mapFirst f i n l ≡ mapFirst f i (length l) l
+  rest-stays i n [] h = no-words i n
+  rest-stays i zero (w ∷ ws) h =
+      ap (λ (x : ℕ). x ∷ ws) (h i (omega arith) (omega arith) w) ∙ ap (λ (l : List ℕ). f i w ∷ l) (rest-stays (suc i) zero ws (λ (p : ℕ) a b. h p (omega arith) (omega arith)))
+  rest-stays i (suc n) (w ∷ ws) h =
+      ap (λ (l : List ℕ). f i w ∷ l) (rest-stays (suc i) n ws (λ (p : ℕ) a b. h p (omega arith) (omega arith)))
+
+  -- words whose index is told from another start
+  pub from-start : (s i n : ℕ) (l : List ℕ) → mapFirst f (s + i) n l ≡ mapFirst (λ (k : ℕ). f (s + k)) i n l
+  from-start s i zero l = refl
+  from-start s i (suc n) [] = refl
+  from-start s i (suc n) (w ∷ ws) =
+      ap (λ (l : List ℕ). f (s + i) w ∷ l) (ap (λ (k : ℕ). mapFirst f k n ws) (sym (add-suc s i)) ∙ from-start s (suc i) n ws)
+
+-- a part is as long as it was asked for, or shorter
+pub part-length : (k : ℕ) (l : List ℕ) → length (take k l) ≤ k
+part-length zero l = zero-le
+part-length (suc k) [] = zero-le
+part-length (suc k) (w ∷ ws) = omega (arith, part-length k ws)
+
+-- two functions that agree on the words of a list
+pub same-words : (f g : ℕ → ℕ → ℕ) (i n : ℕ) (l : List ℕ) → ((p : ℕ) → p < i + n → (w : ℕ) → f p w ≡ g p w) → mapFirst f i n l ≡ mapFirst g i n l
+same-words f g i zero l h = refl
+same-words f g i (suc n) [] h = refl
+same-words f g i (suc n) (w ∷ ws) h =
+    ap (λ (x : ℕ). x ∷ mapFirst f (suc i) n ws) (h i (omega arith) w) ∙ ap (λ (l : List ℕ). g i w ∷ l) (same-words f g (suc i) n ws (λ (p : ℕ) a. h p (omega arith)))
 
 -- a part that was lent and came back as ys
 pub put-part : (f : List ℕ → List ℕ) (start size k : ℕ) (l ys : List ℕ) → k ≡ size → ys ≡ f (take k (drop start l)) → putMid start k l ys ≡ inPart start size f l

@@ -1,7 +1,27 @@
 // What a TLB may remember, in the words of a track: a row of 1,024 words for each context, lent on by itself.
 ghost use mathlib.Core.Path.{_≡_};
-ghost use Rattle.model.specs.step.Track.{isEntry, addEntry, notePage, noteRow, noteTrack, emptyPage, emptyRow, flushAll, flushPage, flushContext, flushPageIn, wordAt, staleWord};
+ghost use Prim.Native.Nat.{_+_, _*_, _<_, _≤_};
+ghost use lib.ListN.{length};
+ghost use Rattle.model.specs.declared.Size.the-variants.{Four};
+ghost use Rattle.model.specs.step.Memory.{numberAt};
+ghost use Rattle.model.specs.step.Rows.{mapWords};
+ghost use Rattle.model.specs.step.Track.{isEntry, addEntry, addOutcome, noteRow, noteTrack, emptyPage, emptyRow, flushAll, flushPage, flushContext, flushPageIn, wordAt, staleWord};
+ghost use Rattle.track.specs.Mib.{mibPages, noteSection, noteTable, noteMib};
+use descriptor::first_of;
+use descriptor::second_of;
+use descriptor::section_entry;
+use memory::load;
+use memory::number;
+use model::FirstLevel;
+use model::Loaded;
 use model::Outcome;
+use model::Size;
+
+// How many words a row has: rowSize.
+const ROW: usize = 1024;
+
+// How many pages a MiB has: mibPages.
+const MIB: usize = 256;
 
 // Whether a word stands for one entry.
 pub fn is_entry(w: u32) -> bool
@@ -26,25 +46,100 @@ pub fn add_entry(w: u32, v: u32) -> u32
     w
 }
 
-// A word after its page was noted.
-pub fn note_page(m: &[u8], root: u32, page: usize, w: u32) -> u32
-    ensures { λ r. ⌜ r ≡ notePage (now (m .entry)) root page w ⌝ }
+// A word after noting what the walk of its page found.
+fn add_outcome(w: u32, o: Outcome) -> u32
+    ensures { λ r. ⌜ r ≡ addOutcome w o ⌝ }
 {
-    match walk::walk(m, root, page) {
+    match o {
         Outcome::Mapped(e) => add_entry(w, walk::entry_word(e)),
         Outcome::Failed(_) => w,
     }
 }
 
-// Notes a row: each of its words is one page's.
+// Notes the pages of a MiB by its section, whose word is x: word i is that of page i.
+fn note_section(x: u32, mib: &mut [u32])
+    ensures { λ _. ⌜ now (mib .exit) ≡ mapWords (noteSection x) (now (mib .entry)) ⌝ }
+{
+    let mut i = 0;
+    while i < mib.len() {
+        let w = mib[i];
+        mib[i] = add_entry(w, walk::entry_word(section_entry(x, i)));
+        i += 1;
+    }
+}
+
+// The word at `at`, which lies in memory.
+fn word(m: &[u8], at: usize) -> u32
+    requires { ⌜ at + 4 ≤ length (now m) ⌝ }
+    ensures { λ r. ⌜ r ≡ numberAt Four (now (m .entry)) at ⌝ }
+{
+    number(m[at], m[at + 1], m[at + 2], m[at + 3])
+}
+
+// How many of the n words from `base` on lie in memory.
+fn words_inside(m: &[u8], base: usize, n: usize) -> usize
+    ensures { λ r. ⌜ (r ≤ n) × ((0 < r → base + 4 * r ≤ length (now (m .entry))) × (r < n → length (now (m .entry)) < base + 4 * r + 4)) ⌝ }
+{
+    if m.len() < base {
+        return 0;
+    }
+    let words = (m.len() - base) / 4;
+    if words < n {
+        return words;
+    }
+    n
+}
+
+// Notes the pages of a MiB by the table at `base`: word i is that of page i. A page whose descriptor lies outside memory stays
+// as it is.
+fn note_table(m: &[u8], base: usize, mib: &mut [u32])
+    requires { ⌜ length (now mib) ≤ mibPages ⌝ }
+    ensures { λ _. ⌜ now (mib .exit) ≡ mapWords (noteTable (now (m .entry)) base) (now (mib .entry)) ⌝ }
+{
+    let n = words_inside(m, base, mib.len());
+    let mut i = 0;
+    while i < n {
+        let w = mib[i];
+        mib[i] = add_outcome(w, second_of(word(m, base + 4 * i), i));
+        i += 1;
+    }
+}
+
+// Notes the pages of the MiB whose level-one descriptor stands at `at`: word i is that of page i.
+fn note_mib(m: &[u8], at: usize, mib: &mut [u32])
+    requires { ⌜ length (now mib) ≤ mibPages ⌝ }
+    ensures { λ _. ⌜ now (mib .exit) ≡ mapWords (noteMib (now (m .entry)) at) (now (mib .entry)) ⌝ }
+{
+    if let Loaded::Value(x) = load(m, at, Size::Four) {
+        match first_of(x, 0) {
+            FirstLevel::Failing(_) => {}
+            FirstLevel::Section(_) => note_section(x, mib),
+            FirstLevel::Table(base) => note_table(m, base as usize, mib),
+        }
+    }
+}
+
+// Where the MiB that starts at `page` ends, in a row of n words.
+fn mib_end(page: usize, n: usize) -> usize
+    requires { ⌜ page < n ⌝ }
+    ensures { λ r. ⌜ (page < r) × ((r ≤ n) × ((r ≤ page + mibPages) × (r < n → r ≡ page + mibPages))) ⌝ }
+{
+    if n - page < MIB {
+        return n;
+    }
+    page + MIB
+}
+
+// Notes a row: each of its words is one page's. The pages of a MiB share a level-one descriptor, which is read once.
 pub fn note_row(m: &[u8], root: u32, row: &mut [u32])
     ensures { λ _. ⌜ now (row .exit) ≡ noteRow (now (m .entry)) root (now (row .entry)) ⌝ }
 {
     let mut page = 0;
     while page < row.len() {
-        let w = row[page];
-        row[page] = note_page(m, root, page, w);
-        page += 1;
+        let end = mib_end(page, row.len());
+        let at = root as usize + 4 * (page / MIB);
+        note_mib(m, at, &mut row[page..end]);
+        page = end;
     }
 }
 
@@ -72,9 +167,9 @@ pub fn empty_page(row: &mut [u32], page: usize)
 pub fn note(m: &[u8], root: u32, track: &mut [u32], context: usize)
     ensures { λ _. ⌜ now (track .exit) ≡ noteTrack (now (m .entry)) root context (now (track .entry)) ⌝ }
 {
-    if context < track.len() / 1024 {
-        let start = context * 1024;
-        let end = start + 1024;
+    if context < track.len() / ROW {
+        let start = context * ROW;
+        let end = start + ROW;
         note_row(m, root, &mut track[start..end]);
     }
 }
@@ -83,9 +178,9 @@ pub fn note(m: &[u8], root: u32, track: &mut [u32], context: usize)
 pub fn flush_context(track: &mut [u32], context: usize)
     ensures { λ _. ⌜ now (track .exit) ≡ flushContext context (now (track .entry)) ⌝ }
 {
-    if context < track.len() / 1024 {
-        let first = context * 1024;
-        let past = first + 1024;
+    if context < track.len() / ROW {
+        let first = context * ROW;
+        let past = first + ROW;
         empty_row(&mut track[first..past]);
     }
 }
@@ -94,9 +189,9 @@ pub fn flush_context(track: &mut [u32], context: usize)
 pub fn flush_page_in(track: &mut [u32], context: usize, page: usize)
     ensures { λ _. ⌜ now (track .exit) ≡ flushPageIn context page (now (track .entry)) ⌝ }
 {
-    if context < track.len() / 1024 {
-        let from = context * 1024;
-        let to = from + 1024;
+    if context < track.len() / ROW {
+        let from = context * ROW;
+        let to = from + ROW;
         empty_page(&mut track[from..to], page);
     }
 }
@@ -105,7 +200,7 @@ pub fn flush_page_in(track: &mut [u32], context: usize, page: usize)
 pub fn flush_all(track: &mut [u32])
     ensures { λ _. ⌜ now (track .exit) ≡ flushAll (now (track .entry)) ⌝ }
 {
-    let rows = track.len() / 1024;
+    let rows = track.len() / ROW;
     let mut c = 0;
     while c < rows {
         flush_context(track, c);
@@ -117,7 +212,7 @@ pub fn flush_all(track: &mut [u32])
 pub fn flush_page(track: &mut [u32], page: usize)
     ensures { λ _. ⌜ now (track .exit) ≡ flushPage page (now (track .entry)) ⌝ }
 {
-    let rows = track.len() / 1024;
+    let rows = track.len() / ROW;
     let mut c = 0;
     while c < rows {
         flush_page_in(track, c, page);
@@ -129,7 +224,7 @@ pub fn flush_page(track: &mut [u32], page: usize)
 pub fn word_at(track: &[u32], context: u32, page: usize) -> u32
     ensures { λ r. ⌜ r ≡ wordAt (now (track .entry)) context page ⌝ }
 {
-    let start = context as usize * 1024;
+    let start = context as usize * ROW;
     if start < track.len() {
         if page < track.len() - start {
             return track[start + page];

@@ -1,5 +1,5 @@
-//! Times the proved code against plain Rust on the same input, in one run, and prints the ratios. Called with the argument
-//! `rival`, it is the plain program.
+//! Times the proved code against plain Rust on the same input, in one run, and prints the ratios. Called with the name of a way
+//! to note a row, it is the plain program that notes that way.
 use model::generate;
 use model::machine::{Kind, Operation};
 use model::random::Random;
@@ -9,46 +9,80 @@ use std::process::Command;
 use std::time::{Duration, Instant};
 use std::{env, fs, io};
 
-/// The shortest of several runs.
-fn shortest(runs: usize, mut run: impl FnMut()) -> Duration {
-    (0..runs)
-        .map(|_| {
+/// The shortest of several runs of each, taken in turn.
+fn shortest<const N: usize>(runs: usize, mut each: [&mut dyn FnMut(); N]) -> [Duration; N] {
+    let mut least = [Duration::MAX; N];
+    for _ in 0..runs {
+        for (run, least) in each.iter_mut().zip(&mut least) {
             let began = Instant::now();
             run();
-            began.elapsed()
-        })
-        .min()
-        .unwrap_or_default()
+            *least = began.elapsed().min(*least);
+        }
+    }
+    least
 }
 
-fn ratio(name: &str, ours: Duration, theirs: Duration) {
-    let ratio = ours.as_secs_f64() / theirs.as_secs_f64();
-    println!("| {name} | {ours:.2?} | {theirs:.2?} | {ratio:.2} |");
+/// A row of the table: the time of the proved code, then each other time with the ratio to it.
+fn print_row(name: &str, ours: Duration, others: &[Duration]) {
+    print!("| {name} | {ours:.2?} |");
+    for theirs in others {
+        let ratio = ours.as_secs_f64() / theirs.as_secs_f64();
+        print!(" {theirs:.2?} | {ratio:.2} |");
+    }
+    println!();
 }
 
 fn walks() {
     let mut random = Random::new(1);
     let image = generate::image(&mut random);
     let addresses: Vec<u32> = (0..100_000).map(|_| random.word() & 0x3F_FFFF).collect();
-    let ours = shortest(20, || {
-        for a in &addresses {
-            black_box(calls::walk(black_box(&image), 0, *a));
-        }
-    });
-    let theirs = shortest(20, || {
-        for a in &addresses {
-            black_box(model::walk::rig(black_box(&image), 0, *a));
-        }
-    });
-    ratio("100,000 walks, C function against the model", ours, theirs);
+    let [ours, theirs] = shortest(
+        20,
+        [
+            &mut || {
+                for a in &addresses {
+                    black_box(calls::walk(black_box(&image), 0, *a));
+                }
+            },
+            &mut || {
+                for a in &addresses {
+                    black_box(model::walk::rig(black_box(&image), 0, *a));
+                }
+            },
+        ],
+    );
+    println!("| what | proved | the model | ratio |\n|---|---|---|---|");
+    print_row("100,000 walks, as a C function", ours, &[theirs]);
 }
 
 fn op(kind: Kind, a: u32, b: u32, c: u32) -> Operation {
     Operation { kind, a, b, c }
 }
 
-/// The lists: name, and operations. Each is a list within 65,536 bytes.
-fn lists() -> Vec<(&'static str, Vec<Operation>)> {
+/// A list to be timed, and the memory it starts from.
+struct List {
+    name: &'static str,
+    image: Vec<u8>,
+    operations: Vec<Operation>,
+}
+
+/// An image whose root points to four tables, which map all 1,024 pages to the image's eight.
+fn image_of_tables() -> Vec<u8> {
+    let mut image = vec![0; 32_768];
+    let mut put = |at: u32, word: u32| {
+        image[at as usize..at as usize + 4].copy_from_slice(&word.to_le_bytes());
+    };
+    for mib in 0..4 {
+        put(4 * mib, 0x400 * (mib + 1) + 1);
+    }
+    for page in 0..1024 {
+        put(0x400 + 4 * page, (page % 8) << 12 | 0x032);
+    }
+    image
+}
+
+/// The lists. Each is within 65,536 bytes.
+fn lists() -> Vec<List> {
     let data = |i: u32| op(Kind::Write, 0x1000 + i % 256, 1, i % 16);
     let table = |i: u32| {
         op(
@@ -65,19 +99,33 @@ fn lists() -> Vec<(&'static str, Vec<Operation>)> {
         _ => op(Kind::AddrCtx, 0x1000, i % 8, 0),
     };
     let read = |i: u32| op(Kind::Read, 0x1000 + i % 256, 1, 0);
+    let all = |n: u32, operation: &dyn Fn(u32) -> Operation| (0..n).map(operation).collect();
+    let on_image_a = |name, operations| List {
+        name,
+        image: generate::image_a(),
+        operations,
+    };
     vec![
-        ("names alone", Vec::new()),
-        ("4,000 data stores", (0..4_000).map(data).collect()),
-        ("2,000 descriptor stores", (0..2_000).map(table).collect()),
-        ("3,500 flushes", (0..3_500).map(flush).collect()),
-        ("4,000 reads", (0..4_000).map(read).collect()),
+        on_image_a("names alone", Vec::new()),
+        on_image_a("4,000 data stores", all(4_000, &data)),
+        on_image_a("2,000 descriptor stores", all(2_000, &table)),
+        on_image_a("3,500 flushes", all(3_500, &flush)),
+        on_image_a("4,000 reads", all(4_000, &read)),
+        List {
+            name: "4,000 reads, all 1,024 pages mapped by tables",
+            image: image_of_tables(),
+            operations: all(4_000, &read),
+        },
     ]
 }
 
-fn rival(list: &Path, folder: &Path) -> Vec<u8> {
+/// The ways to note a row that the plain program has, by the argument that asks for each.
+const WAYS: [(&str, rival::Note); 2] = [("by-page", rival::by_page), ("by-mib", rival::by_mib)];
+
+fn rival(way: &str, list: &Path, folder: &Path) -> Vec<u8> {
     let program = env::current_exe().expect("this program has a path");
     let output = Command::new(program)
-        .arg("rival")
+        .arg(way)
         .current_dir(folder)
         .stdin(fs::File::open(list).expect("the list"))
         .output()
@@ -86,9 +134,17 @@ fn rival(list: &Path, folder: &Path) -> Vec<u8> {
 }
 
 fn reports() {
-    let image = generate::image_a();
-    let folder = programs::Folder::with_image(Some(&image));
-    for (name, operations) in lists() {
+    println!(
+        "| what | proved | page by page | ratio | MiB by MiB | ratio |\n|---|---|---|---|---|---|"
+    );
+    let [(by_page, _), (by_mib, _)] = WAYS;
+    for List {
+        name,
+        image,
+        operations,
+    } in lists()
+    {
+        let folder = programs::Folder::with_image(Some(&image));
         let text = generate::text(&operations);
         assert!(text.len() <= 65_536, "{name}: {} bytes", text.len());
         let list = folder.path().join("list");
@@ -100,22 +156,32 @@ fn reports() {
             .split(|b| *b == b'\n')
             .any(|l| l.split(|b| *b == b',').nth(1) == Some(b"-"));
         assert!(!stopped, "{name}: the list is turned back");
-        assert!(
-            report == rival(&list, folder.path()),
-            "{name}: the reports differ"
+        for (way, _) in WAYS {
+            assert!(
+                report == rival(way, &list, folder.path()),
+                "{name}: the report of {way} differs"
+            );
+        }
+        let [ours, page, mib] = shortest(
+            100,
+            [
+                &mut || drop(programs::replay_in(&folder, &list)),
+                &mut || drop(rival(by_page, &list, folder.path())),
+                &mut || drop(rival(by_mib, &list, folder.path())),
+            ],
         );
-        let ours = shortest(15, || drop(programs::replay_in(&folder, &list)));
-        let theirs = shortest(15, || drop(rival(&list, folder.path())));
-        ratio(name, ours, theirs);
+        print_row(name, ours, &[page, mib]);
     }
 }
 
 fn main() -> io::Result<()> {
-    if env::args().nth(1).as_deref() == Some("rival") {
-        return rival::run();
+    if let Some(asked) = env::args().nth(1) {
+        let way = WAYS.iter().find(|(name, _)| *name == asked);
+        let (_, note) = way.ok_or_else(|| io::Error::other("by-page or by-mib"))?;
+        return rival::run(*note);
     }
-    println!("| what | proved | plain Rust | ratio |\n|---|---|---|---|");
     walks();
+    println!();
     reports();
     Ok(())
 }

@@ -1,5 +1,6 @@
 //! A straightforward program that does what `replay` does, the same way: it re-reads every page
-//! after each operation. The benchmarks time the two side by side.
+//! after each operation. How a row is noted is a parameter: page by page, as anyone would write it
+//! first, or MiB by MiB, which is the idea of `replay`. The benchmarks time them side by side.
 use std::fs;
 use std::io::{self, Read, Write};
 
@@ -33,12 +34,16 @@ enum Answer {
     Refused(u32),
 }
 
+/// How a row of words is noted, by memory and the root.
+pub type Note = fn(&[u8], u32, &mut [u32]);
+
 struct Machine {
     memory: Vec<u8>,
     track: Vec<u32>,
     root: u32,
     context: u32,
     mode: u32,
+    note: Note,
 }
 
 fn load(memory: &[u8], at: usize) -> Option<u32> {
@@ -46,39 +51,90 @@ fn load(memory: &[u8], at: usize) -> Option<u32> {
     Some(u32::from_le_bytes([bytes[0], bytes[1], bytes[2], bytes[3]]))
 }
 
+/// Whether a level-one word points to a table.
+fn is_table(first: u32) -> bool {
+    first & 3 == 1
+}
+
+/// Whether a level-one word is a section.
+fn is_section(first: u32) -> bool {
+    first & 3 == 2 && first & 1 << 18 == 0
+}
+
+/// The track word of a section's page.
+fn section(first: u32, page: usize) -> u32 {
+    let ap = first >> 13 & 4 | first >> 10 & 3;
+    first & 0xFFF0_0000 | (page as u32 & 0xFF) << 12 | ap << 9 | 2
+}
+
+/// The track word of a page by the table of a level-one word, or its fault.
+fn by_table(memory: &[u8], first: u32, page: usize) -> Result<u32, u32> {
+    let table = (first & !0x3FF) as usize;
+    let second = load(memory, table + 4 * (page & 0xFF)).ok_or(6_u32)?;
+    let ap = second >> 7 & 4 | second >> 4 & 3;
+    match second & 3 {
+        0 => Err(3),
+        1 => Ok(second & 0xFFFF_0000 | (page as u32 & 0xF) << 12 | ap << 9 | 2),
+        _ => Ok(second & 0xFFFF_F000 | ap << 9 | 2),
+    }
+}
+
 /// The track word of a page, or its fault.
 fn walk(memory: &[u8], root: u32, page: usize) -> Result<u32, u32> {
     let first = load(memory, root as usize + 4 * (page >> 8)).ok_or(5_u32)?;
-    if first & 3 == 1 {
-        let table = (first & !0x3FF) as usize;
-        let second = load(memory, table + 4 * (page & 0xFF)).ok_or(6_u32)?;
-        let ap = second >> 7 & 4 | second >> 4 & 3;
-        return match second & 3 {
-            0 => Err(3),
-            1 => Ok(second & 0xFFFF_0000 | (page as u32 & 0xF) << 12 | ap << 9 | 2),
-            _ => Ok(second & 0xFFFF_F000 | ap << 9 | 2),
-        };
+    if is_table(first) {
+        return by_table(memory, first, page);
     }
-    if first & 3 == 2 && first & 1 << 18 == 0 {
-        let ap = first >> 13 & 4 | first >> 10 & 3;
-        return Ok(first & 0xFFF0_0000 | (page as u32 & 0xFF) << 12 | ap << 9 | 2);
+    if is_section(first) {
+        return Ok(section(first, page));
     }
     Err(2)
 }
 
-impl Machine {
-    fn note(&mut self) {
-        let start = self.context as usize * 1024;
-        let row = &mut self.track[start..start + 1024];
-        for (page, word) in row.iter_mut().enumerate() {
-            if let Ok(entry) = walk(&self.memory, self.root, page) {
-                if *word == 0 {
-                    *word = entry;
-                } else if *word != entry && *word & 0x1FF == 2 {
-                    *word = 1;
+/// Adds an entry to a page's set.
+fn add(word: &mut u32, entry: u32) {
+    if *word == 0 {
+        *word = entry;
+    } else if *word != entry && *word & 0x1FF == 2 {
+        *word = 1;
+    }
+}
+
+/// Notes a row page by page: each page is walked from level one.
+pub fn by_page(memory: &[u8], root: u32, row: &mut [u32]) {
+    for (page, word) in row.iter_mut().enumerate() {
+        if let Ok(entry) = walk(memory, root, page) {
+            add(word, entry);
+        }
+    }
+}
+
+/// Notes a row MiB by MiB: the level-one word is read once for the 256 pages that share it.
+pub fn by_mib(memory: &[u8], root: u32, row: &mut [u32]) {
+    for (mib, words) in row.chunks_mut(256).enumerate() {
+        let Some(first) = load(memory, root as usize + 4 * mib) else {
+            continue;
+        };
+        let words = words.iter_mut().enumerate();
+        if is_table(first) {
+            for (page, word) in words {
+                if let Ok(entry) = by_table(memory, first, page) {
+                    add(word, entry);
                 }
             }
+        } else if is_section(first) {
+            for (page, word) in words {
+                add(word, section(first, page));
+            }
         }
+    }
+}
+
+impl Machine {
+    fn noting(&mut self) {
+        let start = self.context as usize * 1024;
+        let row = &mut self.track[start..start + 1024];
+        (self.note)(&self.memory, self.root, row);
     }
 
     fn refused(&self, kind: usize, [a, b, c]: [u32; 3]) -> Option<u32> {
@@ -163,7 +219,7 @@ impl Machine {
             _ => self.track[b as usize * 1024 + (a >> 12) as usize] = 0,
         }
         if !matches!(answer, Answer::Refused(_)) {
-            self.note();
+            self.noting();
         }
         answer
     }
@@ -202,7 +258,7 @@ fn read_line(text: &[u8]) -> Result<(usize, [u32; 3]), u32> {
     Ok((kind, fields))
 }
 
-fn report(mut image: Vec<u8>, list: &[u8]) -> Vec<u8> {
+fn report(mut image: Vec<u8>, list: &[u8], note: Note) -> Vec<u8> {
     let mut out = Vec::from("line,op,answer,value\n");
     if image.len() > 32_768 {
         image.clear();
@@ -225,8 +281,9 @@ fn report(mut image: Vec<u8>, list: &[u8]) -> Vec<u8> {
         root: 0,
         context: 0,
         mode: 0,
+        note,
     };
-    machine.note();
+    machine.noting();
     let mut line = 2;
     while !rest.is_empty() {
         let end = rest.iter().position(|b| *b == b'\n');
@@ -252,9 +309,9 @@ fn report(mut image: Vec<u8>, list: &[u8]) -> Vec<u8> {
 }
 
 /// Reads a list from standard input and memory from image.bin, and prints the report.
-pub fn run() -> io::Result<()> {
+pub fn run(note: Note) -> io::Result<()> {
     let mut list = Vec::new();
     io::stdin().take(65_537).read_to_end(&mut list)?;
     let image = fs::read("image.bin").unwrap_or_default();
-    io::stdout().write_all(&report(image, &list))
+    io::stdout().write_all(&report(image, &list, note))
 }

@@ -1,27 +1,50 @@
+use denote.Ref.{now}
+use Rattle.memory.proofs.Laws.{four-bytes}
 use borrow.Author.Needs.{needs}
 use Rattle.memory.proofs.four.Statement.{statement}
 use Rattle.memory.proofs.four.Tie as tie
 use Rattle.memory.proofs.four.Reads as reads
 use Rattle.memory.proofs.four.Lts as lts
-use Rattle.memory.proofs.two.Reads as two-reads
+use Rattle.memory.proofs.number.Reads as number-reads
 
-two-requires : tie.Need-two-requires
-two-requires c κs = search needs
+shared-slice-read-number : tie.Need-shared-slice-read-number
+shared-slice-read-number c = search needs
 
-add-two : tie.Need-add-two
-add-two c = search needs
+add-number : tie.Need-add-number
+add-number c = search needs
 
-two-requires-2 : tie.Need-two-requires-2
-two-requires-2 c κs = search needs
+shared-slice-read-number-2 : tie.Need-shared-slice-read-number-2
+shared-slice-read-number-2 c = search needs
 
-mul-result : tie.Need-mul-result
-mul-result c = search needs
+add-number-2 : tie.Need-add-number-2
+add-number-2 c = search needs
 
-add-result : tie.Need-add-result
-add-result c = search needs
+shared-slice-read-number-3 : tie.Need-shared-slice-read-number-3
+shared-slice-read-number-3 c = search needs
+
+add-number-3 : tie.Need-add-number-3
+add-number-3 c = search needs
+
+shared-slice-read-number-4 : tie.Need-shared-slice-read-number-4
+shared-slice-read-number-4 c = search needs
+
+number-requires : tie.Need-number-requires
+number-requires c κs = search needs
 
 returns : tie.Need-returns
-returns c = search needs
+returns c = let a = c .before .before .before .before .before .before .args in
+    four-bytes (now (a .m)) (a .at) _ (c .number .ensures)
 
 pub four-spec : {M : Type 1} → statement M
-four-spec = tie.close (tie.spec two-requires add-two two-requires-2 mul-result add-result returns)
+four-spec =
+    tie.close
+    (tie.spec
+    shared-slice-read-number
+    add-number
+    shared-slice-read-number-2
+    add-number-2
+    shared-slice-read-number-3
+    add-number-3
+    shared-slice-read-number-4
+    number-requires
+    returns)

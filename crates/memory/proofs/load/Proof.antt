@@ -41,7 +41,7 @@ returns c = let at-inside = c .before .before .before .before in let a = at-insi
 
 returns-2 : tie.Need-returns-2
 returns-2 c = let at-inside = c .before .before .before .before in let a = at-inside .before .before .args in
-    loaded (now (a .m)) (a .at) (a .size) _ (at-inside .inside .ensures) Two (c .before .enum-told2 .given .1) (c .before .before .before .if1 .taken) _ (c .two .ensures .0)
+    loaded (now (a .m)) (a .at) (a .size) _ (at-inside .inside .ensures) Two (c .before .enum-told2 .given .1) (c .before .before .before .if1 .taken) _ (c .two .ensures)
 
 returns-3 : tie.Need-returns-3
 returns-3 c = let at-inside = c .before .before .before .before in let a = at-inside .before .before .args in

@@ -1,0 +1,2 @@
+-- Noting by the pages of a MiB.
+pub mod Mib
