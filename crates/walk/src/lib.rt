@@ -89,8 +89,8 @@ pub extern "C" fn walk_image(image: &[u8], root: u32, address: u32) -> u64
 {
     if memory_fits(image.len()) {
         if root_fits(root) {
-            if address < 4194304 {
-                return outcome_number(walk(image, root, address as usize / 4096));
+            if address < 4194304 { // addressLimit
+                return outcome_number(walk(image, root, address as usize / 4096)); // pageSize
             }
             return 8589934600;
         }

@@ -46,7 +46,7 @@ fn walks() {
             },
             &mut || {
                 for a in &addresses {
-                    black_box(model::walk::rig(black_box(&image), 0, *a));
+                    black_box(model::walk::single_walk(black_box(&image), 0, *a));
                 }
             },
         ],

@@ -2,7 +2,7 @@
 use compare::{cases, keep, Tally};
 use model::generate;
 use model::random::Random;
-use model::walk::rig;
+use model::walk::single_walk;
 
 /// An image of a length that fits or does not, with descriptors that lead in and out of memory.
 fn image(random: &mut Random) -> Vec<u8> {
@@ -33,7 +33,7 @@ fn walks() {
                 _ => random.word() & 0x3F_FFFF,
             };
             let (expected, found) = (
-                rig(&image, root, address),
+                single_walk(&image, root, address),
                 calls::walk(&image, root, address),
             );
             if expected != found {

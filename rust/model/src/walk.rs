@@ -68,7 +68,7 @@ pub fn word(entry: Entry) -> u32 {
 }
 
 /// The walk as the C function answers it.
-pub fn rig(memory: &[u8], root: u32, address: u32) -> u64 {
+pub fn single_walk(memory: &[u8], root: u32, address: u32) -> u64 {
     let refused = |n: u64| 0x2_0000_0000 + n;
     if memory.is_empty() || !memory.len().is_multiple_of(4096) || memory.len() > 16_777_216 {
         return refused(13);
