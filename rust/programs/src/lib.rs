@@ -32,27 +32,40 @@ pub fn repository() -> PathBuf {
         .to_path_buf()
 }
 
-/// Fails where a file of `folder` is newer than a program: the command `./replay` would prove and build it first.
-fn not_newer(folder: &Path, built: SystemTime) {
-    for entry in fs::read_dir(folder).expect("a folder") {
-        let path = entry.expect("an entry").path();
-        if path.is_dir() {
-            not_newer(&path, built);
-        } else {
-            let changed = fs::metadata(&path).and_then(|file| file.modified());
-            let old = "the program is older than its sources: run `rt check replay`";
-            assert!(changed.expect("a time") <= built, "{old}");
-        }
-    }
+/// When a file was written, if it is there.
+fn written(path: &Path) -> Option<SystemTime> {
+    fs::metadata(path).and_then(|file| file.modified()).ok()
 }
 
-/// The command `./replay` of the repository, whose program is built.
+/// When the newest file in a folder was written.
+fn newest(folder: &Path) -> Option<SystemTime> {
+    let entries = fs::read_dir(folder).ok()?;
+    let paths = entries.map(|entry| entry.expect("an entry").path());
+    let times = paths.map(|path| {
+        if path.is_dir() {
+            newest(&path)
+        } else {
+            written(&path)
+        }
+    });
+    times.max().flatten()
+}
+
+/// The command `./replay` of the repository. It must not have to build the program first.
 pub fn replay_command() -> Command {
-    let program = repository().join("target/bin/replay");
-    let built = fs::metadata(program).and_then(|file| file.modified());
-    let built = built.expect("the program is not built: run `rt check replay`");
-    not_newer(&repository().join("crates"), built);
-    Command::new(repository().join("replay"))
+    let here = repository();
+    let built =
+        written(&here.join("target/bin/replay")).max(written(&here.join("target/replay.checked")));
+    for krate in fs::read_dir(here.join("crates")).expect("crates/") {
+        for part in ["src", "specs", "proofs"] {
+            let sources = newest(&krate.as_ref().expect("a crate").path().join(part));
+            assert!(
+                sources <= built,
+                "the program is not up to date: run ./replay"
+            );
+        }
+    }
+    Command::new(here.join("replay"))
 }
 
 /// A built program, to be run in `folder`.

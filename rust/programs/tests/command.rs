@@ -202,7 +202,7 @@ struct Stage(Folder);
 impl Stage {
     fn new() -> Stage {
         let folder = Folder::with_image(Some(&image_a()));
-        for inner in ["docs", "crates", "target/bin", "kit/bin"] {
+        for inner in ["docs", "crates/one/src", "target/bin", "kit/bin"] {
             fs::create_dir_all(folder.path().join(inner)).expect("a folder");
         }
         let stage = Stage(folder);
@@ -279,7 +279,7 @@ fn a_failed_build() {
     let report = format!("{HEADER}2,mode,ok,0\n");
     assert_eq!(stage.ended(&with_names("mode,0,0,0\n"), &report).0, 0);
     stage.script("kit/bin/rt", "echo 'rt: replay NOT PROVED'; exit 1");
-    fs::write(stage.at("crates/newer"), "").expect("a source");
+    fs::write(stage.at("crates/one/src/newer"), "").expect("a source");
     let (status, printed, error) = stage.ended(&with_names("mode,0,0,0\n"), &report);
     assert_eq!((status, printed.as_str()), (2, ""));
     assert!(error.contains("NOT PROVED"), "{error}");
