@@ -87,8 +87,8 @@ fn answer_number(x: Answer) -> u64
 {
     match x {
         Answer::Done(v) => v as u64,
-        Answer::Faulted(f) => 4294967296 + walk::fault_number(f) as u64,
-        Answer::Refused(n) => 8589934592 + checks::refusal_number(n) as u64,
+        Answer::Faulted(f) => 4294967296 + walk::fault_number(f) as u64, // 0x100000000
+        Answer::Refused(n) => 8589934592 + checks::refusal_number(n) as u64, // 0x200000000
     }
 }
 
@@ -120,7 +120,7 @@ pub extern "C" fn machine_step(o: &[u32], r: &mut [u32], m: &mut [u8], t: &mut [
         let x = y.answer;
         return answer_number(x);
     }
-    12884901888
+    12884901888 // 0x300000000
 }
 
 // A start; `r` holds the registers returned afterwards.
@@ -135,5 +135,5 @@ pub extern "C" fn machine_start(m: &[u8], t: &mut [u32], root: u32, r: &mut [u32
         let told = begun.answer;
         return answer_number(told);
     }
-    12884901888
+    12884901888 // 0x300000000
 }

@@ -36,9 +36,10 @@ settings =
     )
     -- eight contexts
     ∷ (reportText 32768 imageA (quoted "op,a,b,c\nasid,7,0,0\nasid,8,0,0\n"), quoted "line,op,answer,value\n2,asid,ok,0\n3,asid,refused,b\n")
-    -- an image of 32,768 bytes, one of 32,769, and one that is missing
+    -- an image of 32,768 bytes, longer ones, and one that is missing
     ∷ (reportText 32768 (replicate 32768 0) (quoted "op,a,b,c\n"), quoted "line,op,answer,value\n")
     ∷ (reportText 32769 (replicate 32769 0) (quoted "op,a,b,c\n"), quoted "line,op,answer,value\n0,start,refused,d\n")
+    ∷ (reportText 36864 (replicate 36864 0) (quoted "op,a,b,c\n"), quoted "line,op,answer,value\n0,start,refused,d\n")
     ∷ (reportText 0 [] (quoted "op,a,b,c\n"), quoted "line,op,answer,value\n0,start,refused,d\n")
     -- the empty list
     ∷ (reportText 32768 imageA [], quoted "line,op,answer,value\n1,-,refused,2\n")

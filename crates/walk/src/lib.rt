@@ -92,9 +92,9 @@ pub extern "C" fn walk_image(image: &[u8], root: u32, address: u32) -> u64
             if address < 4194304 { // addressLimit
                 return outcome_number(walk(image, root, address as usize / 4096)); // pageSize
             }
-            return 8589934600;
+            return 8589934600; // 0x200000000 plus refusal 8
         }
-        return 8589934602;
+        return 8589934602; // plus 10
     }
-    8589934605
+    8589934605 // plus 13
 }

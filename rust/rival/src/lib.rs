@@ -258,32 +258,8 @@ fn read_line(text: &[u8]) -> Result<(usize, [u32; 3]), u32> {
     Ok((kind, fields))
 }
 
-fn report(mut image: Vec<u8>, list: &[u8], note: Note) -> Vec<u8> {
-    let mut out = Vec::from("line,op,answer,value\n");
-    if image.len() > 32_768 {
-        image.clear();
-    }
-    if image.is_empty() || !image.len().is_multiple_of(4096) {
-        out.extend(b"0,start,refused,d\n");
-        return out;
-    }
-    if list.len() > 65_536 {
-        out.extend(b"1,-,refused,1\n");
-        return out;
-    }
-    let Some(mut rest) = list.strip_prefix(b"op,a,b,c\n") else {
-        out.extend(b"1,-,refused,2\n");
-        return out;
-    };
-    let mut machine = Machine {
-        memory: image,
-        track: vec![0; 8 * 1024],
-        root: 0,
-        context: 0,
-        mode: 0,
-        note,
-    };
-    machine.noting();
+/// Carries out the lines of a list and adds their lines to the report.
+fn carry_out(machine: &mut Machine, mut rest: &[u8], out: &mut Vec<u8>) {
     let mut line = 2;
     while !rest.is_empty() {
         let end = rest.iter().position(|b| *b == b'\n');
@@ -305,6 +281,35 @@ fn report(mut image: Vec<u8>, list: &[u8], note: Note) -> Vec<u8> {
         rest = &rest[end.map_or(rest.len(), |end| end + 1)..];
         line += 1;
     }
+}
+
+fn report(mut image: Vec<u8>, list: &[u8], note: Note) -> Vec<u8> {
+    let mut out = Vec::from("line,op,answer,value\n");
+    if image.len() > 32_768 {
+        image.clear();
+    }
+    if image.is_empty() || !image.len().is_multiple_of(4096) {
+        out.extend(b"0,start,refused,d\n");
+        return out;
+    }
+    if list.len() > 65_536 {
+        out.extend(b"1,-,refused,1\n");
+        return out;
+    }
+    let Some(lines) = list.strip_prefix(b"op,a,b,c\n") else {
+        out.extend(b"1,-,refused,2\n");
+        return out;
+    };
+    let mut machine = Machine {
+        memory: image,
+        track: vec![0; 8 * 1024],
+        root: 0,
+        context: 0,
+        mode: 0,
+        note,
+    };
+    machine.noting();
+    carry_out(&mut machine, lines, &mut out);
     out
 }
 
