@@ -1,4 +1,4 @@
--- The first half, for any chip that stays sound beside the checker.
+-- The first half, for any chip that stays sound beside the tracker.
 use Prim.Native.Nat.{ℕ, suc}
 use mathlib.Core.Path.{_≡_, refl, sym, ap, _∙_, subst₂}
 use mathlib.Core.Bool.{Bool, true, false}
@@ -37,7 +37,7 @@ module _ (A : Machine) (M : Tracker A) (B : Carries A M) (C : Chip A) (S : Sound
   moves-fit s t h [] v f = f
   moves-fit s t h (m ∷ ms) v f = moves-fit s t (C .move s h m) ms v (S .fitsMove s t h m v f)
 
-  -- what is held after an operation and the moves that follow it, in the checker's own states
+  -- what is held after an operation and the moves that follow it, in the tracker's own states
   unfoldable pub next : A .State → M .Track → C .Held → A .Op → List (C .Move) → C .Held
   next s t h o ms = moves A C (M .nextState s t o) (heldAfter A C h o (isRefused (M .reply s t o))) ms
 

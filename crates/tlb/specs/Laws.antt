@@ -10,7 +10,7 @@ use Rattle.tlb.specs.Chip.{Chip}
 use Rattle.tlb.specs.Tracker.{Tracker, Reply, done, refused}
 use Rattle.tlb.specs.Seen.{Seen, nothing, note, spared, Stale}
 
--- The checker carries out what the machine does, and a refusal changes nothing.
+-- The tracker carries out what the machine does, and a refusal changes nothing.
 pub record Carries (A : Machine) (M : Tracker A) : Type 1 where
   pub Valid : A .State → M .Track → Type 0
   pub begins : (g : A .Given) (t : M .Track) → M .Accepted g t → M .startState g t ≡ A .boot g
@@ -24,7 +24,7 @@ pub record Carries (A : Machine) (M : Tracker A) : Type 1 where
   pub onePage : (s : A .State) (o : A .Op) (f h : A .Page → Walk (A .Entry) (A .Fault)) →
       ((k : A .Page) → A .page s o ≡ some k → f k ≡ h k) → A .carry s o f ≡ A .carry s o h
 
--- A chip whose memory stays sound beside the checker, and that translates an access carried out as the tables do.
+-- A chip whose memory stays sound beside the tracker, and that translates an access carried out as the tables do.
 pub record Sound (A : Machine) (M : Tracker A) (B : Carries A M) (C : Chip A) : Type 1 where
   pub Fits : A .State → M .Track → C .Held → Type 0
   pub fitsStart : (g : A .Given) (t : M .Track) → M .Accepted g t → Fits (M .startState g t) (M .startTrack g t) (C .empty)

@@ -1,4 +1,4 @@
--- A checker: the machine with a track, which refuses operations; and the two halves of what is to be proved of it.
+-- A tracker: a machine with a track, which refuses operations; and the two halves of what is to be proved of it.
 use Prim.Native.Nat.{ℕ, suc}
 use mathlib.Core.Path.{_≡_}
 use mathlib.Core.Logic.{_↔_}
@@ -37,7 +37,7 @@ module _ (A : Machine) (M : Tracker A) where
   told s t [] = []
   told s t (o ∷ os) = (o, isRefused (M .reply s t o)) ∷ told (M .nextState s t o) (M .nextTrack s t o) os
 
-  -- the checker's own answers and states
+  -- the tracker's own answers and states
   unfoldable pub ownTrace : A .State → M .Track → List (A .Op) → List (Option (A .Answer) × A .State)
   ownTrace s t [] = []
   ownTrace s t (o ∷ os) = (answer (M .reply s t o), M .nextState s t o) ∷ ownTrace (M .nextState s t o) (M .nextTrack s t o) os
@@ -50,7 +50,7 @@ module _ (A : Machine) (M : Tracker A) where
   endTrack s t [] = t
   endTrack s t (o ∷ os) = endTrack (M .nextState s t o) (M .nextTrack s t o) os
 
-  -- The first half: whatever moves a chip makes, over every list it gives the checker's answers and, after every operation, its state.
+  -- The first half: whatever moves a chip makes, over every list it gives the tracker's answers and, after every operation, its state.
   abbrev pub Agrees : Chip A → Type 0
   Agrees C =
       (g : A .Given) (t : M .Track) → M .Accepted g t → (os : List (A .Op)) (first : List (C .Move)) (after : ℕ → List (C .Move)) →

@@ -143,9 +143,12 @@ fn streams_and_links() {
     let fifo = folder.path().join("fifo");
     let made = Command::new("mkfifo").arg(&fifo).status();
     assert!(made.expect("mkfifo runs").success());
-    let child = command(&[&image, &fifo]).spawn().expect("the command runs");
-    fs::copy(&list, &fifo).expect("the list into the FIFO");
-    assert_eq!(told(&finish(child)).1, report);
+    for (arguments, file) in [([&image, &fifo], &list), ([&fifo, &list], &image)] {
+        let arguments = arguments.map(PathBuf::as_path);
+        let child = command(&arguments).spawn().expect("the command runs");
+        fs::copy(file, &fifo).expect("the file into the FIFO");
+        assert_eq!(told(&finish(child)).1, report);
+    }
     assert_eq!(ended(&mut command(&[dash, dash])).0, 2);
 }
 
