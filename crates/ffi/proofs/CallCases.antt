@@ -1,10 +1,12 @@
--- The C functions, as one table of cases computed on their definitions: which word is which field, and the numbers of answers.
+-- The C functions, as two tables of cases computed on their definitions: which word is which field, and the numbers of answers; and a
+-- single walk.
 use Prim.Native.Nat.{ℕ, _+_, _*_}
 use mathlib.Core.Path.{_≡_, refl}
 use mathlib.Core.Bool.{true}
 use mathlib.Core.List.{List, [], _∷_}
 use lib.ListN.{getD, replicate}
-use Rattle.model.proofs.CaseTools.{allMatch, zeros, imageA, next}
+use Rattle.model.specs.step.WalkAnswer.{walkAnswer}
+use Rattle.model.proofs.CaseTools.{allMatch, put, zeros, imageA, next}
 use Rattle.ffi.specs.Words.{kindFrom, operationFrom, registersFrom, registersInto, areWords, Called, stepCall, startCall}
 
 -- one of the registers left, counted from 0, and a byte of the memory left
@@ -61,3 +63,29 @@ callCases =
 pub call-cases : allMatch callCases ≡ true
 unfolding callCases next kindFrom operationFrom registersFrom registersInto areWords stepCall startCall
 call-cases = refl
+
+-- image A with a table outside memory for the second MiB
+abbrev outside : List ℕ
+outside = put 0x4 0x8001 imageA
+
+pub walkCases : List (ℕ × ℕ)
+walkCases =
+    -- the track words of pages 0 and 1; any low 12 bits of the address
+    (walkAnswer imageA 0 0, 0x202)
+    ∷ (walkAnswer imageA 0 0x1000, 0x3602)
+    ∷ (walkAnswer imageA 0 0x1FFF, 0x3602)
+    -- the faults of the walk: 5, 2, 6 and 3
+    ∷ (walkAnswer imageA 0x8000 0, 0x100000005)
+    ∷ (walkAnswer imageA 0 0x100000, 0x100000002)
+    ∷ (walkAnswer outside 0 0x100000, 0x100000006)
+    ∷ (walkAnswer imageA 0 0x2000, 0x100000003)
+    -- the refusals: 13, 10 and 8, in this order
+    ∷ (walkAnswer (replicate 5000 0) 1 0x400000, 0x20000000D)
+    ∷ (walkAnswer imageA 1 0x400000, 0x20000000A)
+    ∷ (walkAnswer imageA 0 0x400000, 0x200000008)
+    ∷ (walkAnswer imageA 0 0x3FFFFF, 0x100000002)
+    ∷ []
+
+pub walk-cases : allMatch walkCases ≡ true
+unfolding walkCases next walkAnswer
+walk-cases = refl

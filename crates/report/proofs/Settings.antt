@@ -1,5 +1,7 @@
--- The program's settings, as one table of cases computed on the report's definition: root 0, eight contexts, and the image's limit.
+-- Cases computed on the report's definition, as one table: the program's settings (root 0, eight contexts, the image's limit), and each
+-- refusal of a list.
 use Prim.Native.Nat.{ℕ}
+use Prim.Native.String.{String}
 use mathlib.Core.Path.{_≡_, refl}
 use mathlib.Core.Bool.{Bool, true, false, cond, _&&_}
 use mathlib.Core.List.{List, [], _∷_, _++_}
@@ -19,6 +21,13 @@ use Rattle.report.specs.Report.{imageLimit, trackLength, memoryLength, a
 -- the report of an image file of n bytes with a list, on a track that held anything
 abbrev reportText : ℕ → List ℕ → List ℕ → List ℕ
 reportText n image list = reportOf (take (memoryLength n) image) (replicate trackLength 7) list .text
+
+-- a list whose third line is turned back with this number: the line before it has been carried out, the one after it is not read
+abbrev turnedBack : String → String → List ℕ × List ℕ
+turnedBack line number = (
+  reportText 32768 imageA (quoted "op,a,b,c\nmode,0,0,0\n" ++ (quoted line ++ quoted "\nmode,0,0,0\n")),
+  quoted "line,op,answer,value\n2,mode,ok,0\n3,-,refused," ++ (quoted number ++ quoted "\n"),
+)
 
 abbrev allSame : List (List ℕ × List ℕ) → Bool
 allSame [] = true
@@ -41,8 +50,32 @@ settings =
     ∷ (reportText 32769 (replicate 32769 0) (quoted "op,a,b,c\n"), quoted "line,op,answer,value\n0,start,refused,d\n")
     ∷ (reportText 36864 (replicate 36864 0) (quoted "op,a,b,c\n"), quoted "line,op,answer,value\n0,start,refused,d\n")
     ∷ (reportText 0 [] (quoted "op,a,b,c\n"), quoted "line,op,answer,value\n0,start,refused,d\n")
-    -- the empty list
+    -- 1: a list of 65,537 bytes, and not one of 65,536
+    ∷ (reportText 32768 imageA (replicate 65537 10), quoted "line,op,answer,value\n1,-,refused,1\n")
+    ∷ (reportText 32768 imageA (replicate 65536 10), quoted "line,op,answer,value\n1,-,refused,2\n")
+    -- 2: the empty list, and names without their newline
     ∷ (reportText 32768 imageA [], quoted "line,op,answer,value\n1,-,refused,2\n")
+    ∷ (reportText 32768 imageA (quoted "op,a,b,c"), quoted "line,op,answer,value\n1,-,refused,2\n")
+    -- 3: three fields, five, one, and no newline at the end; 3 before 4
+    ∷ turnedBack "read,1000,4" "3"
+    ∷ turnedBack "read,1000,4,0,0" "3"
+    ∷ turnedBack "" "3"
+    ∷ turnedBack "read,XX,4" "3"
+    ∷ (reportText 32768 imageA (quoted "op,a,b,c\nmode,0,0,0"), quoted "line,op,answer,value\n2,-,refused,3\n")
+    -- 4: empty, a leading zero, nine digits, upper case; 4 before 5, and before 6
+    ∷ turnedBack "read,,4,0" "4"
+    ∷ turnedBack "read,01000,4,0" "4"
+    ∷ turnedBack "read,123456789,4,0" "4"
+    ∷ turnedBack "read,ABC,4,0" "4"
+    ∷ turnedBack "Read,XX,4,0" "4"
+    ∷ turnedBack "all,1,0,X" "4"
+    -- 5: no such operation, and no name at all
+    ∷ turnedBack "Read,1000,4,0" "5"
+    ∷ turnedBack ",0,0,0" "5"
+    -- 6: an unused field, the first, the second or the third
+    ∷ turnedBack "all,1,0,0" "6"
+    ∷ turnedBack "root,80,1,0" "6"
+    ∷ turnedBack "addrctx,1000,0,1" "6"
     ∷ []
 
 pub settings-hold : allSame settings ≡ true
