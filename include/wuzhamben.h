@@ -8,11 +8,23 @@
 #include <stddef.h>
 #include <stdint.h>
 
-/* An answer is a value of 32 bits, WUZHAMBEN_FAULT plus the number of a fault, or WUZHAMBEN_REFUSAL plus the number of a refusal.
+/* An answer is a value of 32 bits, WUZHAMBEN_FAULT plus a fault's status code, or WUZHAMBEN_REFUSAL plus the number of a refusal.
  * WUZHAMBEN_NO_CALL says that the words handed over are no operation or no registers; nothing was done. */
 #define WUZHAMBEN_FAULT UINT64_C(0x100000000)
 #define WUZHAMBEN_REFUSAL UINT64_C(0x200000000)
 #define WUZHAMBEN_NO_CALL UINT64_C(0x300000000)
+
+/* The faults: short-descriptor status codes. */
+enum {
+    WUZHAMBEN_ALIGNMENT = 0x1,
+    WUZHAMBEN_NO_MAPPING_1 = 0x5,         /* level one */
+    WUZHAMBEN_NO_MAPPING_2 = 0x7,         /* level two */
+    WUZHAMBEN_ACCESS_OUTSIDE = 0x8,       /* bytes not in memory */
+    WUZHAMBEN_WALK_OUTSIDE_1 = 0xc,       /* level-one word not in memory */
+    WUZHAMBEN_PERMISSION_SECTION = 0xd,
+    WUZHAMBEN_WALK_OUTSIDE_2 = 0xe,       /* level-two word not in memory */
+    WUZHAMBEN_PERMISSION_PAGE = 0xf
+};
 
 /* The kinds of operation: the first of an operation's four words. The others are its fields a, b and c. */
 enum {
@@ -28,7 +40,7 @@ enum {
 };
 
 /* The walk of one virtual address through the tables at `root` in an image of 4,096 to 16,777,216 bytes (a multiple of 4,096). The
- * value is the entry's track word: frame in bits 31..12, AP in bits 11..9, bit 1 set. */
+ * value is the entry's track word: frame in bits 31..12, AP in bits 11..9, bit 8 set for a section, bit 1 set. */
 uint64_t walk_image(const uint8_t *image, size_t image_length, uint32_t root, uint32_t address);
 
 /* A start from `memory`, which is only read. It empties and notes `track`, which has 1,024 words for each of 1 to 256 contexts, and

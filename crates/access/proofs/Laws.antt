@@ -6,13 +6,13 @@ use mathlib.Core.List.{List}
 use Rattle.model.specs.declared.Access.the-variants.{Fails, Physical}
 use Rattle.model.specs.declared.Entry.{Entry}
 use Rattle.model.specs.declared.Fault.{Fault}
-use Rattle.model.specs.declared.Fault.the-variants.{Permission, AccessOutside}
+use Rattle.model.specs.declared.Fault.the-variants.{AccessOutside}
 use Rattle.model.specs.declared.Outcome.{Outcome}
 use Rattle.model.specs.declared.Outcome.the-variants.{Mapped, Failed}
 use Rattle.model.specs.declared.Size.{Size}
 use Rattle.model.specs.step.Memory.{within}
 use Rattle.model.specs.step.Rights.{permitted}
-use Rattle.model.specs.step.Machine.{physicalOf, granted}
+use Rattle.model.specs.step.Machine.{physicalOf, permissionFaultOf, granted}
 
 -- a test of an answer t is a test of what it is equal to
 pub was : {t v : Bool} (u : Bool) → t ≡ u → t ≡ v → u ≡ v
@@ -32,5 +32,5 @@ module _ (o : Outcome) (mode : ℕ) (writes : Bool) (size : Size) (a : ℕ) (m :
     pub grant-outside : permitted (e .ap) mode writes ≡ true → within size m (physicalOf e a) ≡ false → Fails AccessOutside ≡ granted o mode writes size a m
     grant-outside p w = sym (simp (p, w)) ∙ by-entry
 
-    pub grant-denied : permitted (e .ap) mode writes ≡ false → Fails Permission ≡ granted o mode writes size a m
+    pub grant-denied : permitted (e .ap) mode writes ≡ false → Fails (permissionFaultOf e) ≡ granted o mode writes size a m
     grant-denied p = sym (simp p) ∙ by-entry

@@ -1,8 +1,9 @@
 // What access permissions allow, and what an access comes to: a physical address, a fault, or that its page is stale.
 ghost use mathlib.Core.Path.{_≡_};
 ghost use Rattle.model.specs.step.Rights.{between, kernelRights, userRights, rightsOf, permitted};
-ghost use Rattle.model.specs.step.Machine.{sizeOf, granted, decided, accessAt};
+ghost use Rattle.model.specs.step.Machine.{sizeOf, permissionFaultOf, granted, decided, accessAt};
 use model::Access;
+use model::Entry;
 use model::Fault;
 use model::Outcome;
 use model::Registers;
@@ -81,6 +82,16 @@ pub fn size_of(b: u32) -> Size
     Size::Four
 }
 
+// The permission fault of an access through this entry.
+pub fn permission_fault(e: Entry) -> Fault
+    ensures { λ r. ⌜ r ≡ permissionFaultOf e ⌝ }
+{
+    if e.section == 1 {
+        return Fault::SectionPermission;
+    }
+    Fault::PagePermission
+}
+
 // An access to a page with this outcome: permission, then the bytes.
 pub fn grant(o: Outcome, mode: u32, writes: bool, size: Size, a: u32, m: &[u8]) -> Access
     ensures { λ r. ⌜ r ≡ granted o mode writes size a (now (m .entry)) ⌝ }
@@ -90,9 +101,10 @@ pub fn grant(o: Outcome, mode: u32, writes: bool, size: Size, a: u32, m: &[u8]) 
         Outcome::Mapped(e) => {
             let at = e.frame as usize * 4096 + a as usize % 4096; // pageSize
             let allowed = permitted(e.ap, mode, writes);
+            let denied = permission_fault(e);
             let found = memory::inside(m, at, size);
             if !allowed {
-                return Access::Fails(Fault::Permission);
+                return Access::Fails(denied);
             }
             if !found {
                 return Access::Fails(Fault::AccessOutside);

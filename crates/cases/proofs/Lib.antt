@@ -1,6 +1,7 @@
 -- The cases of the rules, computed by the definitions: those that the rules mark P, cases beyond them, one taken through the third
 -- demand, and wrong checkers that it rules out.
 pub mod PaperCases
+pub mod SplitCases
 pub mod WiderCases
 pub mod Witness
 pub mod WrongCheckers

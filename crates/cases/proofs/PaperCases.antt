@@ -48,12 +48,12 @@ paperCases =
     ∷ (answered (next Read 0x1000 4 0 restored), 0x12345678)
     -- a level-one word 0x320C02 sends 0x105678 to 0x305678
     ∷ (sent (put 0x4 0x320C02 zeros) 0x105678, 0x305678)
-    -- 0x40002 maps nothing: fault 2
-    ∷ (sent (put 0x4 0x40002 zeros) 0x105678, faultCode 2)
+    -- 0x40002 maps nothing: fault 5
+    ∷ (sent (put 0x4 0x40002 zeros) 0x105678, faultCode 0x5)
     -- a level-two word 0x10831 sends 0x13000 to 0x13000
     ∷ (sent (put 0x0 0x401 (put 0x44C 0x10831 zeros)) 0x13000, 0x13000)
-    -- read at 0x3FFFFF size 1 passes check 8: fault 2, as level-one word 3 is 0
-    ∷ (answered (next Read 0x3FFFFF 1 0 start), faultCode 2)
+    -- read at 0x3FFFFF size 1 passes check 8: fault 5, as level-one word 3 is 0
+    ∷ (answered (next Read 0x3FFFFF 1 0 start), faultCode 0x5)
     -- at 0x400000 it doesn't
     ∷ (answered (next Read 0x400000 1 0 start), refusalCode 8)
     -- read size 3 at 0x400000 gives 7

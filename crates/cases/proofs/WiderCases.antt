@@ -26,6 +26,7 @@ use Rattle.model.specs.declared.Outcome.the-variants.{Mapped, Failed}
 use Rattle.model.specs.declared.Check.{Check}
 use Rattle.model.specs.declared.Check.the-variants.{Pass, Refuse}
 use Rattle.model.proofs.CaseTools.{allMatch, put, zeros, imageA, next, faultCode, refusalCode, answered}
+use Rattle.cases.proofs.SplitCases.{splitAndJoined}
 
 -- 1 where it holds, 0 where not
 abbrev bit : Bool → ℕ
@@ -60,9 +61,9 @@ listing =
     ∷ (answered line5, 0)
     ∷ (answered line6, 0x11223344)
     ∷ (answered line7, faultCode 1)
-    ∷ (answered line8, faultCode 3)
+    ∷ (answered line8, faultCode 0x7)
     ∷ (answered line9, 0)
-    ∷ (answered line10, faultCode 4)
+    ∷ (answered line10, faultCode 0xF)
     ∷ (answered line11, refusalCode 15)
     ∷ []
 
@@ -88,12 +89,15 @@ permissions =
     ++ rights 6 (1, 0) (1, 0)
     ++ rights 7 (1, 0) (1, 0)
 
--- an entry as one number, and an outcome: an entry or a fault
-abbrev entry : ℕ → ℕ → ℕ
-entry frame ap = frame * 8 + ap
+-- the entry of a section's page, and of a page, as one number; an outcome: an entry or a fault
+abbrev fromSection : ℕ → ℕ → ℕ
+fromSection frame ap = frame * 16 + ap * 2 + 1
+
+abbrev fromPage : ℕ → ℕ → ℕ
+fromPage frame ap = frame * 16 + ap * 2
 
 abbrev outcome : Outcome → ℕ
-outcome (Mapped e) = entry (e .frame) (e .ap)
+outcome (Mapped e) = e .frame * 16 + e .ap * 2 + e .section
 outcome (Failed f) = faultCode (faultNumber f)
 
 -- the outcome of a page under root 0 with this level-one word
@@ -115,28 +119,28 @@ sections : List (ℕ × ℕ)
 unfolding next
 sections =
     -- the kind bits alone; base, bits 20 and 31; AP[2], bit 15; AP[1:0], bits 10 and 11
-    (first 0x00000002 0, entry 0 0)
-    ∷ (first 0x00100002 0, entry 0x100 0)
-    ∷ (first 0x80000002 0, entry 0x80000 0)
-    ∷ (first 0x00008002 0, entry 0 4)
-    ∷ (first 0x00000402 0, entry 0 1)
-    ∷ (first 0x00000802 0, entry 0 2)
+    (first 0x00000002 0, fromSection 0 0)
+    ∷ (first 0x00100002 0, fromSection 0x100 0)
+    ∷ (first 0x80000002 0, fromSection 0x80000 0)
+    ∷ (first 0x00008002 0, fromSection 0 4)
+    ∷ (first 0x00000402 0, fromSection 0 1)
+    ∷ (first 0x00000802 0, fromSection 0 2)
     -- every bit of base and AP, and the same with every ignored bit; every ignored bit alone
-    ∷ (first 0xFFF08C02 0, entry 0xFFF00 7)
-    ∷ (first 0xFFFBFFFE 0, entry 0xFFF00 7)
-    ∷ (first 0x000B73FE 0, entry 0 0)
+    ∷ (first 0xFFF08C02 0, fromSection 0xFFF00 7)
+    ∷ (first 0xFFFBFFFE 0, fromSection 0xFFF00 7)
+    ∷ (first 0x000B73FE 0, fromSection 0 0)
     -- the low eight frame bits come from the page
-    ∷ (first 0x12300002 0x101, entry 0x12301 0)
-    ∷ (first 0x12300002 0x180, entry 0x12380 0)
-    ∷ (first 0x12300002 0x3A5, entry 0x123A5 0)
+    ∷ (first 0x12300002 0x101, fromSection 0x12301 0)
+    ∷ (first 0x12300002 0x180, fromSection 0x12380 0)
+    ∷ (first 0x12300002 0x3A5, fromSection 0x123A5 0)
     -- bit 18 set: no mapping
-    ∷ (first 0x00040002 0, faultCode 2)
-    ∷ (first 0xFFFFFFFE 0, faultCode 2)
+    ∷ (first 0x00040002 0, faultCode 0x5)
+    ∷ (first 0xFFFFFFFE 0, faultCode 0x5)
     -- kinds 0 and 3: no mapping
-    ∷ (first 0x00000000 0, faultCode 2)
-    ∷ (first 0xFFFFFFFC 0, faultCode 2)
-    ∷ (first 0x00000003 0, faultCode 2)
-    ∷ (first 0xFFFFFFFF 0, faultCode 2)
+    ∷ (first 0x00000000 0, faultCode 0x5)
+    ∷ (first 0xFFFFFFFC 0, faultCode 0x5)
+    ∷ (first 0x00000003 0, faultCode 0x5)
+    ∷ (first 0xFFFFFFFF 0, faultCode 0x5)
     ∷ []
 
 -- Level-one words that point to a table, and where the words of a walk stand.
@@ -154,18 +158,18 @@ tables =
     ∷ (tableBase (firstOf 0xFFFFFFFD 0), 0xFFFFFC00)
     ∷ (tableBase (firstOf 0x000003FD 0), 0)
     -- the same by walks, with a level-two word at 0x400
-    ∷ (outcome (walkPage (put 0 0x00000401 atBase) 0 0), entry 0x12345 3)
-    ∷ (outcome (walkPage (put 0 0x000007FD atBase) 0 0), entry 0x12345 3)
-    ∷ (outcome (walkPage (put 0 0x80000401 atBase) 0 0), faultCode 6)
+    ∷ (outcome (walkPage (put 0 0x00000401 atBase) 0 0), fromPage 0x12345 3)
+    ∷ (outcome (walkPage (put 0 0x000007FD atBase) 0 0), fromPage 0x12345 3)
+    ∷ (outcome (walkPage (put 0 0x80000401 atBase) 0 0), faultCode 0xE)
     -- the level-one word of page 0x3FF is at 0xC from the root, its level-two word at 0x3FC from the table's base
-    ∷ (outcome (walkPage atEnd 0x80 0x3FF), entry 0x12345 3)
-    ∷ (outcome (walkPage atEnd 0x80 0x3FE), faultCode 3)
-    ∷ (outcome (walkPage atEnd 0x80 0x2FF), faultCode 2)
+    ∷ (outcome (walkPage atEnd 0x80 0x3FF), fromPage 0x12345 3)
+    ∷ (outcome (walkPage atEnd 0x80 0x3FE), faultCode 0x7)
+    ∷ (outcome (walkPage atEnd 0x80 0x2FF), faultCode 0x5)
     -- at each level the last words of memory, and the first behind them
-    ∷ (outcome (walkPage (put 0xF8C 0x12300002 zeros) 0xF80 0x300), entry 0x12300 0)
-    ∷ (outcome (walkPage zeros 0x1000 0), faultCode 5)
-    ∷ (outcome (walkPage (put 0 0xC01 (put 0xFFC 0x12345032 zeros)) 0 0xFF), entry 0x12345 3)
-    ∷ (outcome (walkPage (put 0 0x1001 zeros) 0 0), faultCode 6)
+    ∷ (outcome (walkPage (put 0xF8C 0x12300002 zeros) 0xF80 0x300), fromSection 0x12300 0)
+    ∷ (outcome (walkPage zeros 0x1000 0), faultCode 0xC)
+    ∷ (outcome (walkPage (put 0 0xC01 (put 0xFFC 0x12345032 zeros)) 0 0xFF), fromPage 0x12345 3)
+    ∷ (outcome (walkPage (put 0 0x1001 zeros) 0 0), faultCode 0xE)
     ∷ []
 
 -- Level-two words: large pages, small pages, and words that map nothing.
@@ -173,41 +177,41 @@ pages : List (ℕ × ℕ)
 unfolding next
 pages =
     -- large page: the kind bits alone; base, bits 16 and 31; AP[2], bit 9; AP[1:0], bits 4 and 5
-    (second 0x00000001 0, entry 0 0)
-    ∷ (second 0x00010001 0, entry 0x10 0)
-    ∷ (second 0x80000001 0, entry 0x80000 0)
-    ∷ (second 0x00000201 0, entry 0 4)
-    ∷ (second 0x00000011 0, entry 0 1)
-    ∷ (second 0x00000021 0, entry 0 2)
+    (second 0x00000001 0, fromPage 0 0)
+    ∷ (second 0x00010001 0, fromPage 0x10 0)
+    ∷ (second 0x80000001 0, fromPage 0x80000 0)
+    ∷ (second 0x00000201 0, fromPage 0 4)
+    ∷ (second 0x00000011 0, fromPage 0 1)
+    ∷ (second 0x00000021 0, fromPage 0 2)
     -- every bit of base and AP, and the same with every ignored bit; every ignored bit alone
-    ∷ (second 0xFFFF0231 0, entry 0xFFFF0 7)
-    ∷ (second 0xFFFFFFFD 0, entry 0xFFFF0 7)
-    ∷ (second 0x0000FDCD 0, entry 0 0)
+    ∷ (second 0xFFFF0231 0, fromPage 0xFFFF0 7)
+    ∷ (second 0xFFFFFFFD 0, fromPage 0xFFFF0 7)
+    ∷ (second 0x0000FDCD 0, fromPage 0 0)
     -- the low four frame bits come from the page
-    ∷ (second 0x12340001 0x101, entry 0x12341 0)
-    ∷ (second 0x12340001 0x108, entry 0x12348 0)
-    ∷ (second 0x12340001 0x3A5, entry 0x12345 0)
-    ∷ (second 0x12340001 0x1F0, entry 0x12340 0)
+    ∷ (second 0x12340001 0x101, fromPage 0x12341 0)
+    ∷ (second 0x12340001 0x108, fromPage 0x12348 0)
+    ∷ (second 0x12340001 0x3A5, fromPage 0x12345 0)
+    ∷ (second 0x12340001 0x1F0, fromPage 0x12340 0)
     -- small page: the kind bits alone; base, bits 12 and 31; AP[2], bit 9; AP[1:0], bits 4 and 5
-    ∷ (second 0x00000002 0, entry 0 0)
-    ∷ (second 0x00001002 0, entry 1 0)
-    ∷ (second 0x80000002 0, entry 0x80000 0)
-    ∷ (second 0x00000202 0, entry 0 4)
-    ∷ (second 0x00000012 0, entry 0 1)
-    ∷ (second 0x00000022 0, entry 0 2)
+    ∷ (second 0x00000002 0, fromPage 0 0)
+    ∷ (second 0x00001002 0, fromPage 1 0)
+    ∷ (second 0x80000002 0, fromPage 0x80000 0)
+    ∷ (second 0x00000202 0, fromPage 0 4)
+    ∷ (second 0x00000012 0, fromPage 0 1)
+    ∷ (second 0x00000022 0, fromPage 0 2)
     -- every bit of base and AP, and the same with every ignored bit; every ignored bit alone
-    ∷ (second 0xFFFFF232 0, entry 0xFFFFF 7)
-    ∷ (second 0xFFFFFFFE 0, entry 0xFFFFF 7)
-    ∷ (second 0x00000DCE 0, entry 0 0)
+    ∷ (second 0xFFFFF232 0, fromPage 0xFFFFF 7)
+    ∷ (second 0xFFFFFFFE 0, fromPage 0xFFFFF 7)
+    ∷ (second 0x00000DCE 0, fromPage 0 0)
     -- kind 3 is a small page too
-    ∷ (second 0x00000003 0, entry 0 0)
-    ∷ (second 0x12345213 0, entry 0x12345 5)
-    ∷ (second 0xFFFFFFFF 0, entry 0xFFFFF 7)
+    ∷ (second 0x00000003 0, fromPage 0 0)
+    ∷ (second 0x12345213 0, fromPage 0x12345 5)
+    ∷ (second 0xFFFFFFFF 0, fromPage 0xFFFFF 7)
     -- no frame bit of a small page comes from the page
-    ∷ (second 0x12340002 0x3A5, entry 0x12340 0)
+    ∷ (second 0x12340002 0x3A5, fromPage 0x12340 0)
     -- kind 0: no mapping
-    ∷ (second 0x00000000 0, faultCode 3)
-    ∷ (second 0xFFFFFFFC 0, faultCode 3)
+    ∷ (second 0x00000000 0, faultCode 0x7)
+    ∷ (second 0xFFFFFFFC 0, faultCode 0x7)
     ∷ []
 
 -- The small image has two maps and two words of data.
@@ -250,25 +254,45 @@ refusing n k a b c x =
     let y = next k a b c x in
     (bit (same (y .track) (x .track)), 1) ∷ keeping x y (refusalCode n)
 
--- Each fault. It changes no register and no memory.
+-- the same fault in kernel and in user mode
+abbrev inBoth : ℕ → Kind → ℕ → ℕ → ℕ → ℕ → List ℕ → List (ℕ × ℕ)
+inBoth n k a b c root m = faulting n k a b c (given root 1 0 m emptyTrack) ++ faulting n k a b c (given root 1 1 m emptyTrack)
+
+-- The guarded image maps frame 0 with AP 5, by a section from page 0, a large page at page 0x100 and a small page at page 0x110; from
+-- page 0x200 a section at 0x300000, AP 3, not in memory.
+abbrev guardedImage : List ℕ
+guardedImage = put 0x80 0x28402 (put 0x84 0x401 (put 0x400 0xA11 (put 0x440 0xA12 (put 0x88 0x320C02 (put 0x10 0x44332211 zeros)))))
+
+-- Each fault, in both modes. It changes no register and no memory.
 faults : List ℕ → List (ℕ × ℕ)
 unfolding next
 faults small =
-    let kernel = given 0x80 1 0 small emptyTrack in
-    let user = given 0x80 1 1 small emptyTrack in
-    let outside = given 0x1000 1 1 small emptyTrack in
-    faulting 1 Write 0x12 4 0xA1B2C3D4 user
-    ++ faulting 2 Write 0x100010 4 0xA1B2C3D4 user
-    ++ faulting 3 Write 0x2010 4 0xA1B2C3D4 user
-    ++ faulting 4 Write 0x3010 4 0xA1B2C3D4 user
-    ++ faulting 5 Write 0x10 4 0xA1B2C3D4 outside
-    ++ faulting 6 Write 0x300010 4 0xA1B2C3D4 user
-    ++ faulting 7 Write 0x200010 4 0xA1B2C3D4 kernel
-    -- a read in user mode of a page that is for the kernel alone
-    ++ faulting 4 Read 0x1010 4 0 user
-    -- fault 1 before 2, and 4 before 7
-    ++ faulting 1 Read 0x100001 2 0 user
-    ++ faulting 4 Read 0x200010 4 0 user
+    let guarded = guardedImage in
+    let kernel = given 0x80 1 0 guarded emptyTrack in
+    let user = given 0x80 1 1 guarded emptyTrack in
+    inBoth 0x1 Write 0x12 4 0xA1B2C3D4 0x80 small
+    ++ inBoth 0x5 Write 0x100010 4 0xA1B2C3D4 0x80 small
+    ++ inBoth 0x7 Write 0x2010 4 0xA1B2C3D4 0x80 small
+    ++ inBoth 0xC Write 0x10 4 0xA1B2C3D4 0x1000 small
+    ++ inBoth 0xE Write 0x300010 4 0xA1B2C3D4 0x80 small
+    ++ inBoth 0x8 Write 0x200010 4 0xA1B2C3D4 0x80 guarded
+    ++ faulting 0x8 Write 0x200010 4 0xA1B2C3D4 (given 0x80 1 0 small emptyTrack)
+    -- permission through a section, a large page and a small page: 0xD, 0xF and 0xF
+    ++ inBoth 0xD Write 0x10 4 0xA1B2C3D4 0x80 guarded
+    ++ inBoth 0xF Write 0x100010 4 0xA1B2C3D4 0x80 guarded
+    ++ inBoth 0xF Write 0x110010 4 0xA1B2C3D4 0x80 guarded
+    ++ inBoth 0xF Write 0x3010 4 0xA1B2C3D4 0x80 small
+    -- reads of what is for the kernel alone
+    ++ faulting 0xD Read 0x10 4 0 user
+    ++ faulting 0xF Read 0x100010 4 0 user
+    ++ faulting 0xF Read 0x110010 4 0 user
+    ++ faulting 0xF Read 0x1010 4 0 (given 0x80 1 1 small emptyTrack)
+    ++ (answered (next Read 0x10 4 0 kernel), 0x44332211)
+    ∷ (answered (next Read 0x100010 4 0 kernel), 0x44332211)
+    ∷ (answered (next Read 0x110010 4 0 kernel), 0x44332211)
+    -- fault 1 before 5, and 0xD before 8
+    ∷ faulting 0x1 Read 0x100001 2 0 (given 0x80 1 1 small emptyTrack)
+    ++ faulting 0xD Read 0x200010 4 0 (given 0x80 1 1 small emptyTrack)
 
 -- Each refusal. It changes no register, no memory and no track.
 refusals : List ℕ → List (ℕ × ℕ)
@@ -415,7 +439,7 @@ staleOrder small =
     -- fault 1 before 16
     (answered (next Read 0x12 4 0 kernel), faultCode 1)
     ∷ (answered (next Read 0x10 4 0 kernel), refusalCode 16)
-    -- 16 before faults 5, 2, 6, 3, 4 and 7
+    -- 16 before faults 0xC, 5, 0xE, 7, 0xF and 8
     ∷ (answered (next Read 0x10 4 0 (given 0x1000 0 0 small stale)), refusalCode 16)
     ∷ (answered (next Read 0x100010 4 0 kernel), refusalCode 16)
     ∷ (answered (next Read 0x300010 4 0 kernel), refusalCode 16)
@@ -428,13 +452,13 @@ staleOrder small =
 
 -- the words of pages 0, 1 and 2 in context 0, and in context 1
 abbrev tracked : After → ℕ × ℕ × ℕ → ℕ × ℕ × ℕ → List (ℕ × ℕ)
-tracked x zero one =
-    (wordAt (x .track) 0 0, zero .0)
-    ∷ (wordAt (x .track) 0 1, zero .1)
-    ∷ (wordAt (x .track) 0 2, zero .2)
-    ∷ (wordAt (x .track) 1 0, one .0)
-    ∷ (wordAt (x .track) 1 1, one .1)
-    ∷ (wordAt (x .track) 1 2, one .2)
+tracked x row0 row1 =
+    (wordAt (x .track) 0 0, row0 .0)
+    ∷ (wordAt (x .track) 0 1, row0 .1)
+    ∷ (wordAt (x .track) 0 2, row0 .2)
+    ∷ (wordAt (x .track) 1 0, row1 .0)
+    ∷ (wordAt (x .track) 1 1, row1 .1)
+    ∷ (wordAt (x .track) 1 2, row1 .2)
     ∷ []
 
 -- The flushes: which sets they empty, and which of these are noted again.
@@ -539,8 +563,8 @@ starting small =
     ∷ (wordAt (start .track) 0 2, 0)
     ∷ (wordAt (start .track) 0 3, 0xE02)
     ∷ (wordAt (start .track) 0 0x1FF, 0)
-    ∷ (wordAt (start .track) 0 0x200, 0x300202)
-    ∷ (wordAt (start .track) 0 0x2FF, 0x3FF202)
+    ∷ (wordAt (start .track) 0 0x200, 0x300302)
+    ∷ (wordAt (start .track) 0 0x2FF, 0x3FF302)
     ∷ (wordAt (start .track) 0 0x300, 0)
     ∷ (wordAt (start .track) 0 0x3FF, 0)
     ∷ (wordAt (start .track) 1 0, 0)
@@ -588,7 +612,7 @@ registers small =
     ∷ (wordAt (moved .track) 1 3, 0xE02)
     ∷ (answered (next Read 0x10 4 0 moved), refusalCode 16)
     ∷ (answered (next Read 0x1010 4 0 moved), 0x44332211)
-    ∷ (answered (next Read 0x2010 4 0 moved), faultCode 7)
+    ∷ (answered (next Read 0x2010 4 0 moved), faultCode 0x8)
     ∷ (answered (next Read 0x3010 4 0 moved), refusalCode 16)
     ∷ []
 
@@ -617,7 +641,7 @@ descriptors small =
     -- an ignored bit changed: the same entry
     ∷ (wordAt (ignored .track) 0 1, 0x202)
     ∷ (answered (next Read 0x1010 4 0 ignored), 0x44332211)
-    -- no mapping any more: the word stays, the page is stale, before fault 3; an unaligned access is fault 1
+    -- no mapping any more: the word stays, the page is stale, before fault 7; an unaligned access is fault 1
     ∷ (wordAt (unmapped .track) 0 1, 0x202)
     ∷ (answered (next Read 0x1010 4 0 unmapped), refusalCode 16)
     ∷ (answered (next Read 0x1011 4 0 unmapped), faultCode 1)
@@ -628,10 +652,11 @@ descriptors small =
     ∷ (answered (next Read 0x2010 4 0 mapped), 0x44332211)
     ∷ []
 
--- words that are neither 0, nor 1, nor an entry's: bit 1 clear, or a bit set that an entry has clear
+-- words that are neither 0, nor 1, nor an entry's: bit 1 clear, or a bit set that an entry has clear, without and with bit 8
 abbrev oddWords : List ℕ
 oddWords =
-    0x1000 ∷ 0x1003 ∷ 0x1006 ∷ 0x100A ∷ 0x1012 ∷ 0x1022 ∷ 0x1042 ∷ 0x1082 ∷ 0x1102
+    0x1000 ∷ 0x1003 ∷ 0x1006 ∷ 0x100A ∷ 0x1012 ∷ 0x1022 ∷ 0x1042 ∷ 0x1082
+    ∷ 0x1100 ∷ 0x1103 ∷ 0x1106 ∷ 0x110A ∷ 0x1112 ∷ 0x1122 ∷ 0x1142 ∷ 0x1182
     ∷ 3 ∷ 4 ∷ 7 ∷ 0xFFFFFFFF ∷ []
 
 -- an odd word stays when an entry is added, and its page is stale whatever the tables say
@@ -639,7 +664,7 @@ abbrev staysOdd : List ℕ → List (ℕ × ℕ)
 staysOdd [] = []
 staysOdd (w ∷ ws) =
     (addEntry w 0x1002, w)
-    ∷ (bit (staleWord w (Mapped (record { frame = 1; ap = 0 }))), 1)
+    ∷ (bit (staleWord w (Mapped (record { frame = 1; ap = 0; section = 0 }))), 1)
     ∷ (bit (staleWord w (Failed SecondUnmapped)), 1)
     ∷ staysOdd ws
 
@@ -647,21 +672,29 @@ staysOdd (w ∷ ws) =
 words : List ℕ → List (ℕ × ℕ)
 unfolding next
 words small =
-    let present = Mapped (record { frame = 1; ap = 0 }) in
+    let present = Mapped (record { frame = 1; ap = 0; section = 0 }) in
+    let ofSection = Mapped (record { frame = 1; ap = 0; section = 1 }) in
     let odd = given 0x80 0 0 small (7 ∷ 0x206 ∷ 0x1006 ∷ 3 ∷ replicate 1020 0) in
     let noted = next Mode 0 0 0 odd in
     let cleared = next Addr 0 0 0 noted in
-    -- the word of one entry: frame in bits 31..12, AP in bits 11..9, bit 1 set
-    (entryWord (record { frame = 0; ap = 0 }), 0x00000002)
-    ∷ (entryWord (record { frame = 1; ap = 0 }), 0x00001002)
-    ∷ (entryWord (record { frame = 0x80000; ap = 0 }), 0x80000002)
-    ∷ (entryWord (record { frame = 0; ap = 1 }), 0x00000202)
-    ∷ (entryWord (record { frame = 0; ap = 4 }), 0x00000802)
-    -- an entry added to an empty set, to itself, to one of another frame, to one of another AP, to two
+    -- the word of one entry: frame in bits 31..12, AP in bits 11..9, section in bit 8, bit 1 set
+    (entryWord (record { frame = 0; ap = 0; section = 0 }), 0x00000002)
+    ∷ (entryWord (record { frame = 1; ap = 0; section = 0 }), 0x00001002)
+    ∷ (entryWord (record { frame = 0x80000; ap = 0; section = 0 }), 0x80000002)
+    ∷ (entryWord (record { frame = 0; ap = 1; section = 0 }), 0x00000202)
+    ∷ (entryWord (record { frame = 0; ap = 4; section = 0 }), 0x00000802)
+    ∷ (entryWord (record { frame = 0; ap = 0; section = 1 }), 0x00000102)
+    -- a section and a page with the same frame and AP
+    ∷ (entryWord (record { frame = 0x123; ap = 3; section = 1 }), 0x00123702)
+    ∷ (entryWord (record { frame = 0x123; ap = 3; section = 0 }), 0x00123602)
+    -- an entry added to an empty set, to itself, to one of another frame, of another AP, of a section, to two
     ∷ (addEntry 0 0x1002, 0x1002)
     ∷ (addEntry 0x1002 0x1002, 0x1002)
     ∷ (addEntry 0x2002 0x1002, 1)
     ∷ (addEntry 0x1202 0x1002, 1)
+    ∷ (addEntry 0x1102 0x1002, 1)
+    ∷ (addEntry 0x1002 0x1102, 1)
+    ∷ (addEntry 0x1102 0x1102, 0x1102)
     ∷ (addEntry 0x0002 0x1002, 1)
     ∷ (addEntry 0xFFFFFE02 0x1002, 1)
     ∷ (addEntry 1 0x1002, 1)
@@ -670,6 +703,9 @@ words small =
     ∷ (bit (staleWord 0x1002 present), 0)
     ∷ (bit (staleWord 0x2002 present), 1)
     ∷ (bit (staleWord 0x1202 present), 1)
+    ∷ (bit (staleWord 0x1102 present), 1)
+    ∷ (bit (staleWord 0x1002 ofSection), 1)
+    ∷ (bit (staleWord 0x1102 ofSection), 0)
     ∷ (bit (staleWord 1 present), 1)
     ∷ (bit (staleWord 0 (Failed SecondUnmapped)), 0)
     ∷ (bit (staleWord 0x1002 (Failed SecondUnmapped)), 1)
@@ -697,12 +733,12 @@ words small =
 
 pub widerCases : List (ℕ × ℕ)
 unfolding listing permissions sections tables pages faults refusals conditions order staleOrder flushes sizes starting
-    registers descriptors words
+    registers descriptors words splitAndJoined
 widerCases =
     let small = smallImage in
     listing ++ permissions ++ sections ++ tables ++ pages
     ++ faults small ++ refusals small ++ conditions ++ order ++ staleOrder small
-    ++ flushes small ++ sizes small ++ starting small ++ registers small ++ descriptors small ++ words small
+    ++ flushes small ++ sizes small ++ starting small ++ registers small ++ descriptors small ++ words small ++ splitAndJoined
 
 pub wider-cases : allMatch widerCases ≡ true
 unfolding widerCases

@@ -31,7 +31,7 @@ readBack = record { kind = Read; a = 0x1000; b = 4; c = 0 }
 
 -- the entry that image A's tables give page 1 at first
 pub old : Entry
-old = record { frame = 3; ap = 3 }
+old = record { frame = 3; ap = 3; section = 0 }
 
 pub case : Session
 case = record { image = imageA; track = replicate 1024 0; root = 0; operations = unmap ∷ [] }
@@ -65,7 +65,7 @@ before-write : outcome (fresh imageA 0) (1 * pageSize) ≡ found old
 unfolding outcome fresh walk descriptor tableWord pageWord smallPage bits value inMemory old
 before-write = refl
 
-after-write : outcome (plainStep unmap false (fresh imageA 0) .1) (1 * pageSize) ≡ failed 3
+after-write : outcome (plainStep unmap false (fresh imageA 0) .1) (1 * pageSize) ≡ failed 0x7
 unfolding plainStep carriedOut effect access translated touched stored aligned allows rightOf physical outcome fresh walk descriptor tableWord pageWord smallPage bits value inMemory unmap
 after-write = refl
 
@@ -88,7 +88,7 @@ loads-after : (s : State) → s ≡ plainStep unmap false (fresh imageA 0) .1 �
     OldOnly (held (s .registers .context) page e)
 unfolding OldOnly
 loads-after s is page e q p =
-    absurd (failed-found 3 e (sym after-write ∙ ap (λ (z : State). outcome z (1 * pageSize)) (sym is) ∙ ap (λ n. outcome s (n * pageSize)) (sym p) ∙ q))
+    absurd (failed-found 0x7 e (sym after-write ∙ ap (λ (z : State). outcome z (1 * pageSize)) (sym is) ∙ ap (λ n. outcome s (n * pageSize)) (sym p) ∙ q))
 
 -- the state of every chip after the write
 chip-state : (n : ℕ) (first : List Move) (script : ℕ → List Move) →

@@ -147,7 +147,7 @@ thirdAnswer (x ∷ []) = none
 thirdAnswer (x ∷ y ∷ zs) = headAnswer zs
 
 -- the plain machine faults; a chip of one place that loaded page 2 after the first operation reads the 7
-plain-faults : thirdAnswer (plainRun (fresh image 0) readAfter) ≡ some (fault 2)
+plain-faults : thirdAnswer (plainRun (fresh image 0) readAfter) ≡ some (fault 0x5)
 unfolding thirdAnswer headAnswer plainRun plainStep carriedOut effect setRegisters access translated aligned fresh outcome walk descriptor tableWord bits value inMemory readPage2 toRoot image
 plain-faults = refl
 
@@ -155,7 +155,7 @@ chip-reads : thirdAnswer (map chipSeen (chipRun (chipStart 1 (fresh image 0) [])
 unfolding thirdAnswer headAnswer chipRun chipStart chipNext chipStep chipSeen chipOutcome orWalk effect setRegisters access translated touched aligned allows rightOf physical fresh moves move isFree heldFor putIn outcome walk descriptor tableWord section bits value inMemory flushPlace flushes readPage2 toRoot image afterFirst
 chip-reads = refl
 
-faults-reads : _≡_ {A = Option Result} (some (fault 2)) (some (ok 7)) → ⊥
+faults-reads : _≡_ {A = Option Result} (some (fault 0x5)) (some (ok 7)) → ⊥
 faults-reads q = let z : _≡_ {A = Bool} true false = cc in true≢false z
 
 -- Start with root 0, `root 0x80`, `root 0`, a read of page 2: one that copies the track and goes by it carries the read out, as

@@ -46,10 +46,10 @@ callCases =
     ∷ (register 2 user, 1)
     ∷ (called 8 0 0 0 (0 ∷ 0 ∷ 1 ∷ []) .number, 0x20000000F)
     ∷ (called 0 0 4 0 (0 ∷ 2 ∷ 0 ∷ []) .number, 0x20000000E)
-    -- a read: the address is the second word, the size the third; its value, and fault 3
+    -- a read: the address is the second word, the size the third; its value, and fault 7
     ∷ (called 0 0x1000 4 0 kernel .number, 0x12345678)
     ∷ (called 0 0x1002 2 0 kernel .number, 0x1234)
-    ∷ (called 0 0x2000 1 0 kernel .number, 0x100000003)
+    ∷ (called 0 0x2000 1 0 kernel .number, 0x100000007)
     -- a write: the value is the fourth
     ∷ (called 1 0x1000 2 0xABCD kernel .number, 0)
     ∷ (byte 0x3000 (called 1 0x1000 2 0xABCD kernel), 0xCD)
@@ -64,9 +64,9 @@ pub call-cases : allMatch callCases ≡ true
 unfolding callCases next kindFrom operationFrom registersFrom registersInto areWords stepCall startCall
 call-cases = refl
 
--- image A with a table outside memory for the second MiB
+-- image A with a table outside memory for the second MiB, and a section at 0x30000000, AP 3, nG set, for the third
 abbrev outside : List ℕ
-outside = put 0x4 0x8001 imageA
+outside = put 0x4 0x8001 (put 0x8 0x30020C02 imageA)
 
 pub walkCases : List (ℕ × ℕ)
 walkCases =
@@ -74,16 +74,18 @@ walkCases =
     (walkAnswer imageA 0 0, 0x202)
     ∷ (walkAnswer imageA 0 0x1000, 0x3602)
     ∷ (walkAnswer imageA 0 0x1FFF, 0x3602)
-    -- the faults of the walk: 5, 2, 6 and 3
-    ∷ (walkAnswer imageA 0x8000 0, 0x100000005)
-    ∷ (walkAnswer imageA 0 0x100000, 0x100000002)
-    ∷ (walkAnswer outside 0 0x100000, 0x100000006)
-    ∷ (walkAnswer imageA 0 0x2000, 0x100000003)
+    -- the word of a section's page has bit 8 set
+    ∷ (walkAnswer outside 0 0x2AB000, 0x300AB702)
+    -- the faults of the walk: 0xC, 5, 0xE and 7
+    ∷ (walkAnswer imageA 0x8000 0, 0x10000000C)
+    ∷ (walkAnswer imageA 0 0x100000, 0x100000005)
+    ∷ (walkAnswer outside 0 0x100000, 0x10000000E)
+    ∷ (walkAnswer imageA 0 0x2000, 0x100000007)
     -- the refusals: 13, 10 and 8, in this order
     ∷ (walkAnswer (replicate 5000 0) 1 0x400000, 0x20000000D)
     ∷ (walkAnswer imageA 1 0x400000, 0x20000000A)
     ∷ (walkAnswer imageA 0 0x400000, 0x200000008)
-    ∷ (walkAnswer imageA 0 0x3FFFFF, 0x100000002)
+    ∷ (walkAnswer imageA 0 0x3FFFFF, 0x100000005)
     ∷ []
 
 pub walk-cases : allMatch walkCases ≡ true

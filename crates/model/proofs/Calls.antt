@@ -11,7 +11,7 @@ use lib.ListN.{length}
 use borrow.Author.Tests.{ltb-true, leb-true}
 use Rattle.model.specs.Limits.{rowSize, contextsMost}
 use Rattle.model.specs.Numbers.{Result, ok, fault, refused, shown, refusalNumber}
-use Rattle.model.specs.reference.Rules.{Translation, found, failed, inMemory, physical, rightOf, allows, State, fresh, aligned, touched, translated, access, setRegisters, effect, outcome, carriedOut, flushes, trackWord, notedIn, wordAfter, contexts, conditions, startConditions, Given, refuses16}
+use Rattle.model.specs.reference.Rules.{Translation, found, failed, inMemory, physical, rightOf, allows, permissionFault, State, fresh, aligned, touched, translated, access, setRegisters, effect, outcome, carriedOut, flushes, trackWord, notedIn, wordAfter, contexts, conditions, startConditions, Given, refuses16}
 use Rattle.model.specs.reference.Runs.{isRefused}
 use Rattle.model.specs.step.Track.{noteTrack, flushAll}
 use Rattle.model.specs.step.Checks.{checks, startChecks, firstFailing, contextFits, registersFit, sizeFits, rootFits, lengthsFit, memoryFits, trackFits}
@@ -123,7 +123,7 @@ translated-answers writes a size v s (failed n) = refl
 translated-answers writes a size v s (found e) =
     go (allows (rightOf (e .ap) (s .registers .mode)) writes) (inMemory (s .memory) (physical e a) size)
   where
-    go : (p q : Bool) → isRefused (cond p (cond q (touched writes (physical e a) size v s) (fault 7, s)) (fault 4, s) .0) ≡ false
+    go : (p q : Bool) → isRefused (cond p (cond q (touched writes (physical e a) size v s) (fault 0x8, s)) (fault (permissionFault e), s) .0) ≡ false
     go true true = touched-answers writes (physical e a) size v s
     go true false = refl
     go false q = refl
@@ -132,7 +132,7 @@ access-answers : (writes : Bool) (o : Operation) (s : State) (f : ℕ → Transl
 unfolding isRefused access
 access-answers writes o s f = go (aligned (o .a) (o .b))
   where
-    go : (b : Bool) → isRefused (cond b (translated writes (o .a) (o .b) (o .c) s (f (o .a))) (fault 1, s) .0) ≡ false
+    go : (b : Bool) → isRefused (cond b (translated writes (o .a) (o .b) (o .c) s (f (o .a))) (fault 0x1, s) .0) ≡ false
     go true = translated-answers writes (o .a) (o .b) (o .c) s (f (o .a))
     go false = refl
 

@@ -9,15 +9,15 @@ use lib.ListN.{length, getD}
 use borrow.Author.Tests.{eqb-true, eqb-false, eq-eqb, ne-eqb}
 use Rattle.model.specs.Limits.{pageSize, rowSize}
 use Rattle.model.specs.Numbers.{Result, ok, fault, refused, shown, faultNumber}
-use Rattle.model.specs.reference.Rules.{Translation, found, failed, inMemory, value, stored, walk, physical, rightOf, allows, State, aligned, touched, translated, access, setRegisters, effect, outcome, carriedOut, trackWord, stale, kept, differs, among, refuses16}
+use Rattle.model.specs.reference.Rules.{Translation, found, failed, inMemory, value, stored, walk, physical, rightOf, allows, permissionFault, State, aligned, touched, translated, access, setRegisters, effect, outcome, carriedOut, trackWord, stale, kept, differs, among, refuses16}
 use Rattle.model.specs.step.Memory.{bytesOf, within, loadAt, writtenAt}
 use Rattle.model.specs.step.Walk.{walkPage}
 use Rattle.model.specs.step.Rights.{permitted}
 use Rattle.model.specs.step.Track.{noteTrack, wordAt, staleWord}
 use Rattle.model.specs.step.Checks.{isSize, sizeFits}
-use Rattle.model.specs.step.Machine.{After, sizeOf, valueOf, physicalOf, granted, decided, accessAt, readFrom, writeTo, readStep, writeStep, operate}
+use Rattle.model.specs.step.Machine.{After, sizeOf, valueOf, physicalOf, permissionFaultOf, granted, decided, accessAt, readFrom, writeTo, readStep, writeStep, operate}
 use Rattle.model.specs.Demands.{visible}
-use Rattle.model.specs.Types.{Registers, Operation, Kind, Read, Write, Root, Asid, Mode, All, Addr, Ctx, AddrCtx, Entry, Alignment, Permission, AccessOutside, Size, One, Two, Four, Outcome, Mapped, Failed, Access, Stale, Fails, Physical}
+use Rattle.model.specs.Types.{Registers, Operation, Kind, Read, Write, Root, Asid, Mode, All, Addr, Ctx, AddrCtx, Entry, Alignment, SectionPermission, PagePermission, AccessOutside, Size, One, Two, Four, Outcome, Mapped, Failed, Access, Stale, Fails, Physical}
 use Rattle.model.proofs.BoolLaws.{push}
 use Rattle.model.proofs.Memory.{within-same, number-same, stored-same}
 use Rattle.model.proofs.Walk.{translation, walk-same}
@@ -69,27 +69,34 @@ where-true false x y z e = refl
 
 -- ── An access, its page's outcome given ──
 
+permission-same : (e : Entry) → faultNumber (permissionFaultOf e) ≡ permissionFault e
+unfolding permissionFaultOf permissionFault
+permission-same e = push faultNumber (eqb (e .section) 1) SectionPermission PagePermission
+
 granted-same : (x : Outcome) (writes : Bool) (size : Size) (a v : ℕ) (r : Registers) (m : List ℕ) →
     taken writes size v (state r m) (granted x (r .mode) writes size a m) ≡ translated writes a (bytesOf size) v (state r m) (translation x)
 unfolding taken translated physical
 granted-same (Failed f) writes size a v r m = refl
 granted-same (Mapped e) writes size a v r m =
+    let denied : Result × State = (fault (permissionFault e), state r m) in
+    let outside : Result × State = (fault 0x8, state r m) in
+    let bytes : Result × State = touched writes (physicalOf e a) (bytesOf size) v (state r m) in
     push (taken writes size v (state r m)) (permitted (e .ap) (r .mode) writes)
-    (cond (within size m (physicalOf e a)) (Physical (physicalOf e a)) (Fails AccessOutside)) (Fails Permission)
-    ∙ ap (λ y. cond (permitted (e .ap) (r .mode) writes) y (fault 4, state r m))
+    (cond (within size m (physicalOf e a)) (Physical (physicalOf e a)) (Fails AccessOutside)) (Fails (permissionFaultOf e))
+    ∙ ap₂ (λ x n. cond (permitted (e .ap) (r .mode) writes) x (fault n, state r m))
     (push (taken writes size v (state r m)) (within size m (physicalOf e a)) (Physical (physicalOf e a)) (Fails AccessOutside)
-    ∙ where-true (within size m (physicalOf e a)) _ (touched writes (physicalOf e a) (bytesOf size) v (state r m)) (fault 7, state r m) (bytes-taken writes size v r m (physicalOf e a))
-    ∙ ap (λ b. cond b (touched writes (physicalOf e a) (bytesOf size) v (state r m)) (fault 7, state r m)) (within-same size m (physicalOf e a)))
-    ∙ ap (λ b. cond b (cond (inMemory m (physicalOf e a) (bytesOf size)) (touched writes (physicalOf e a) (bytesOf size) v (state r m)) (fault 7, state r m)) (fault 4, state r m))
-    (rights-same (e .ap) (r .mode) writes)
+    ∙ where-true (within size m (physicalOf e a)) _ bytes outside (bytes-taken writes size v r m (physicalOf e a))
+    ∙ ap (λ b. cond b bytes outside) (within-same size m (physicalOf e a)))
+    (permission-same e)
+    ∙ ap (λ b. cond b (cond (inMemory m (physicalOf e a) (bytesOf size)) bytes outside) denied) (rights-same (e .ap) (r .mode) writes)
 
 decided-same : (x : Outcome) (w : ℕ) (writes : Bool) (size : Size) (a v : ℕ) (r : Registers) (m : List ℕ) →
     taken writes size v (state r m) (decided x w (r .mode) writes size a m)
-    ≡ cond (aligned a (bytesOf size)) (cond (staleWord w x) (refused 16, state r m) (translated writes a (bytesOf size) v (state r m) (translation x))) (fault 1, state r m)
+    ≡ cond (aligned a (bytesOf size)) (cond (staleWord w x) (refused 16, state r m) (translated writes a (bytesOf size) v (state r m) (translation x))) (fault 0x1, state r m)
 unfolding decided aligned taken
 decided-same x w writes size a v r m =
     push (taken writes size v (state r m)) (eqb (a % bytesOf size) 0) _ (Fails Alignment)
-    ∙ ap (λ y. cond (eqb (a % bytesOf size) 0) y (fault 1, state r m))
+    ∙ ap (λ y. cond (eqb (a % bytesOf size) 0) y (fault 0x1, state r m))
     (push (taken writes size v (state r m)) (staleWord w x) Stale _
     ∙ ap (λ y. cond (staleWord w x) (refused 16, state r m) y) (granted-same x writes size a v r m))
 
@@ -101,14 +108,14 @@ stale-at r m t a =
     stale-same (wordAt t (r .context) (a / pageSize)) (walkPage m (r .root) (a / pageSize)) (walk-range m (r .root) (a / pageSize))
     ∙ ap₂ (λ n x. differs (kept (getD t n 0)) x) (let q : r .context * rowSize + a / pageSize ≡ rowSize * r .context + a / pageSize = omega arith in q) (walk-same m (r .root) a)
 
--- an access in a state: fault 1, then 16, then what its translation gives
+-- an access in a state: fault 0x1, then 16, then what its translation gives
 access-same : (writes : Bool) (size : Size) (a v : ℕ) (r : Registers) (m t : List ℕ) →
     taken writes size v (state r m) (accessAt r m t writes size a)
-    ≡ cond (aligned a (bytesOf size)) (cond (stale t (r .context) (a / pageSize) (walk m (r .root) a)) (refused 16, state r m) (translated writes a (bytesOf size) v (state r m) (walk m (r .root) a))) (fault 1, state r m)
+    ≡ cond (aligned a (bytesOf size)) (cond (stale t (r .context) (a / pageSize) (walk m (r .root) a)) (refused 16, state r m) (translated writes a (bytesOf size) v (state r m) (walk m (r .root) a))) (fault 0x1, state r m)
 unfolding accessAt
 access-same writes size a v r m t =
     decided-same (walkPage m (r .root) (a / pageSize)) (wordAt t (r .context) (a / pageSize)) writes size a v r m
-    ∙ ap₂ (λ b x. cond (aligned a (bytesOf size)) (cond b (refused 16, state r m) (translated writes a (bytesOf size) v (state r m) x)) (fault 1, state r m)) (stale-at r m t a) (walk-same m (r .root) a)
+    ∙ ap₂ (λ b x. cond (aligned a (bytesOf size)) (cond b (refused 16, state r m) (translated writes a (bytesOf size) v (state r m) x)) (fault 0x1, state r m)) (stale-at r m t a) (walk-same m (r .root) a)
 
 -- the size that a field names
 size-bytes : (b : ℕ) → isSize b ≡ true → bytesOf (sizeOf b) ≡ b
@@ -131,7 +138,7 @@ access-whole : (writes : Bool) (o : Operation) (r : Registers) (m t : List ℕ) 
 unfolding access outcome
 access-whole writes o r m t h =
     access-same writes (sizeOf (o .b)) (o .a) (o .c) r m t
-    ∙ rw (size-bytes (o .b) h) (nested (aligned (o .a) (o .b)) (stale t (r .context) (o .a / pageSize) (walk m (r .root) (o .a))) (refused 16, state r m) _ (fault 1, state r m))
+    ∙ rw (size-bytes (o .b) h) (nested (aligned (o .a) (o .b)) (stale t (r .context) (o .a / pageSize) (walk m (r .root) (o .a))) (refused 16, state r m) _ (fault 0x1, state r m))
 
 -- ── Every operation ──
 

@@ -101,15 +101,6 @@ tlbOf n = record {
   through = λ s ps page. asWalk (orWalk (heldFor (s .registers .context) page ps) (outcome s (page * pageSize)));
 }
 
--- entries are compared by frame and AP
-pub entry-discrete : Discrete Entry
-entry-discrete x y = at (ℕ-discrete (x .frame) (y .frame)) (ℕ-discrete (x .ap) (y .ap))
-  where
-    at : Dec (x .frame ≡ y .frame) → Dec (x .ap ≡ y .ap) → Dec (x ≡ y)
-    at (yes p) (yes q) = yes (λ i. record { frame = p i; ap = q i })
-    at (yes p) (no q) = no (λ r. q (λ i. r i .ap))
-    at (no p) d = no (λ r. p (λ i. r i .frame))
-
 -- what a word keeps, as the theory has it
 abbrev pub seenOf : Kept → Seen Entry
 seenOf empty = nothing
@@ -140,7 +131,7 @@ unfolding access
 access-page writes o s f h e = go (aligned (o .a) (o .b)) refl
   where
     go : (b : Bool) → aligned (o .a) (o .b) ≡ b →
-        cond b (translated writes (o .a) (o .b) (o .c) s (f (o .a))) (faulted 1, s) ≡ cond b (translated writes (o .a) (o .b) (o .c) s (h (o .a))) (faulted 1, s)
+        cond b (translated writes (o .a) (o .b) (o .c) s (f (o .a))) (faulted 0x1, s) ≡ cond b (translated writes (o .a) (o .b) (o .c) s (h (o .a))) (faulted 0x1, s)
     go true p = ap (translated writes (o .a) (o .b) (o .c) s) (e p)
     go false p = refl
 

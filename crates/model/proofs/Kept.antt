@@ -26,10 +26,11 @@ use Rattle.model.specs.Demands.{Call, conditionsOf, after, before, visib
 use Rattle.model.specs.Types.{Registers, Operation, Kind, Read, Write, Root, Asid, Mode, All, Addr, Ctx, AddrCtx, Entry, Refusal, Check, Pass, Refuse, Outcome, Mapped, Failed}
 use Rattle.model.proofs.BoolLaws.{and-both}
 use Rattle.model.proofs.Walk.{translation, walk-same}
-use Rattle.model.proofs.Words.{Fits, InRange, walk-range, decoded}
+use Rattle.model.proofs.Entries.{Fits, same-true, same-false, entry-discrete, decoded}
+use Rattle.model.proofs.Words.{InRange, walk-range}
 use Rattle.model.proofs.Checks.{asConditions, staleCondition, checks-same}
 use Rattle.model.proofs.Calls.{firstHolding, given-first, first-given, none-some, not-refused, never-refused, exactly, plain, words, unchanged, track-length, start-exactly, start-plain, start-words, start-track-length, Begun, begun, back, done as accepted, Passed, call-passes, passed-call, Hold, passed, checksOf, conditions-by, orElse, none-holds}
-use Rattle.model.proofs.Instance.{asWalk, ofWalk, pageOf, walkOf, carryOf, tables, replyOf, stateOf, callOf, checker, entry-discrete, seenOf, outcome-page, carry-plain, one-page}
+use Rattle.model.proofs.Instance.{asWalk, ofWalk, pageOf, walkOf, carryOf, tables, replyOf, stateOf, callOf, checker, seenOf, outcome-page, carry-plain, one-page}
 
 -- ── A call as the theory sees it ──
 
@@ -125,19 +126,6 @@ kept-word : (e : Entry) → Fits e → kept (wordOf e) ≡ only e
 unfolding kept
 kept-word e h =
     rw (ne-eqb (wordOf e) 0 (word-zero e), decoded e h, eq-eqb (wordOf e) (wordOf e) refl)
-
-same-true : (x e : Entry) → same x e ≡ true → x ≡ e
-unfolding same
-same-true x e p =
-    let q = and-both (eqb (x .frame) (e .frame)) (eqb (x .ap) (e .ap)) p in
-    λ i. record { frame = eqb-true (x .frame) (e .frame) (q .0) i; ap = eqb-true (x .ap) (e .ap) (q .1) i }
-
-same-self : (e : Entry) → same e e ≡ true
-unfolding same
-same-self e = rw (eq-eqb (e .frame) (e .frame) refl, eq-eqb (e .ap) (e .ap) refl)
-
-same-false : (x e : Entry) → same x e ≡ false → x ≡ e → ⊥
-same-false x e p q = true≢false (sym (same-self e) ∙ ap (λ y. same y e) (sym q) ∙ p)
 
 coding : Coding Entry wordOf same (λ w. seenOf (kept w)) Fits
 coding = record {

@@ -5,6 +5,7 @@ pub mod Walk
 pub mod Rights
 pub mod Checks
 pub mod Rows
+pub mod Entries
 pub mod Words
 pub mod Track
 pub mod Effect

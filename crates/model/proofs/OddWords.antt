@@ -13,10 +13,10 @@ use Rattle.model.specs.Types.{Entry}
 use Rattle.model.proofs.BoolLaws.{either}
 use Rattle.model.proofs.Calls.{words}
 
-counts : (w : ℕ) → (w ≡ 0 → ⊥) → ((e : Entry) → e .frame < 0x100000 → e .ap < 8 → w ≡ wordOf e → ⊥) → kept w ≡ several
+counts : (w : ℕ) → (w ≡ 0 → ⊥) → ((e : Entry) → e .frame < 0x100000 → e .ap < 8 → e .section < 2 → w ≡ wordOf e → ⊥) → kept w ≡ several
 unfolding kept entryOf bits
 counts w nz h =
-    rw (ne-eqb w 0 nz, ne-eqb w (wordOf (entryOf w)) (h (entryOf w) (omega arith) (omega arith)))
+    rw (ne-eqb w 0 nz, ne-eqb w (wordOf (entryOf w)) (h (entryOf w) (omega arith) (omega arith) (omega arith)))
 
 noted-stays : (x : Translation) (w : ℕ) → kept w ≡ several → noted x w ≡ w
 unfolding noted addTo

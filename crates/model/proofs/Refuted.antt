@@ -128,7 +128,7 @@ readPage2 = record { kind = Read; a = 0x2000; b = 4; c = 0 }
 
 -- what a TLB can hold of page 2 while the root is 0x80
 unfoldable pub entry2 : Entry
-entry2 = record { frame = 2; ap = 1 }
+entry2 = record { frame = 2; ap = 1; section = 1 }
 
 -- the state with this root
 at : ℕ → State
@@ -186,7 +186,7 @@ unfolded-found n e q = let z : _≡_ {A = Bool} true false = cc in true≢false 
 -- loaded before the root changes
 loaded-first : Differs 0x80 (load 0 2 ∷ []) (λ i. []) ((toRoot 0, false) ∷ [])
 unfolding last plainRun plainStep carriedOut effect setRegisters fresh chipStart chipRun chipNext chipStep moves move isFree heldFor putIn outcome walk descriptor tableWord section bits value inMemory flushPlace flushes Holds readPage2 toRoot entry2 image
-loaded-first = (inl refl, λ q. unfolded-found 2 entry2 q)
+loaded-first = (inl refl, λ q. unfolded-found 0x5 entry2 q)
 
 -- loaded after the first change of root
 unfoldable pub afterFirst : ℕ → List Move
@@ -195,10 +195,10 @@ afterFirst (suc i) = []
 
 loaded-between : Differs 0 [] afterFirst ((toRoot 0x80, false) ∷ (toRoot 0, false) ∷ [])
 unfolding last plainRun plainStep carriedOut effect setRegisters fresh chipStart chipRun chipNext chipStep moves move isFree heldFor putIn outcome walk descriptor tableWord section bits value inMemory flushPlace flushes Holds readPage2 toRoot entry2 image afterFirst
-loaded-between = (inl refl, λ q. unfolded-found 2 entry2 q)
+loaded-between = (inl refl, λ q. unfolded-found 0x5 entry2 q)
 
 -- under root 0 page 2 is not mapped, and an empty word makes it not stale
-page2-unmapped : outcome (fresh image 0) (2 * pageSize) ≡ failed 2
+page2-unmapped : outcome (fresh image 0) (2 * pageSize) ≡ failed 0x5
 unfolding outcome fresh walk descriptor tableWord bits value inMemory image
 page2-unmapped = refl
 
@@ -341,7 +341,7 @@ module _ (m : Checker) (ord : Orderly m) (start : SameBegins m) (plain : SamePla
           ∙ by .says16 readPage2 (x .registers) (x .memory) (x .track) (q ∙ ap refused (only-16 x back r q))
 
       word : trackWord (m .start image track0 0 .track) 0 2 ≡ 0
-      word = unfold session in by .unmapped (session 0 []) (start-accepted m ord 0 free0 []) 2 2 (omega arith) page2-unmapped
+      word = unfold session in by .unmapped (session 0 []) (start-accepted m ord 0 free0 []) 2 0x5 (omega arith) page2-unmapped
 
   -- ── What the second half says of it ──
 

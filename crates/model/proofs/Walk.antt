@@ -39,7 +39,7 @@ kind-same w = omega arith
 -- level two
 second-tests : (a w : ℕ) (x y : Bool) →
     translation (cond x (Failed SecondUnmapped) (cond y (Mapped (largeEntry w (a / pageSize))) (Mapped (smallEntry w))))
-    ≡ cond x (failed 3) (cond y (found (largePage a w)) (found (smallPage w)))
+    ≡ cond x (failed 0x7) (cond y (found (largePage a w)) (found (smallPage w)))
 second-tests a w true y = refl
 second-tests a w false true = ap found (large-same a w)
 second-tests a w false false = ap found (small-same w)
@@ -48,13 +48,13 @@ second-same : (a w : ℕ) → translation (secondOf w (a / pageSize)) ≡ pageWo
 unfolding secondOf pageWord
 second-same a w = rw (sym (kind-same w)) (second-tests a w (eqb (kindOf w) 0) (eqb (kindOf w) 1))
 
-secondAt-same : (m : List ℕ) (table a : ℕ) → translation (secondAt m table (a / pageSize)) ≡ descriptor m (table + 4 * (a / pageSize % 256)) 6 (pageWord a)
+secondAt-same : (m : List ℕ) (table a : ℕ) → translation (secondAt m table (a / pageSize)) ≡ descriptor m (table + 4 * (a / pageSize % 256)) 0xe (pageWord a)
 unfolding secondAt descriptor loadAt
 secondAt-same m table a =
     let at : ℕ = table + 4 * (a / pageSize % 256) in
     push (λ x. translation (secondFrom x (a / pageSize))) (within Four m at) (Value (numberAt Four m at)) Outside
-    ∙ ap (λ n. cond (within Four m at) n (failed 6)) (second-same a (numberAt Four m at) ∙ ap (pageWord a) (number-same Four m at))
-    ∙ ap (λ b. cond b (pageWord a (value m at 4)) (failed 6)) (within-same Four m at)
+    ∙ ap (λ n. cond (within Four m at) n (failed 0xe)) (second-same a (numberAt Four m at) ∙ ap (pageWord a) (number-same Four m at))
+    ∙ ap (λ b. cond b (pageWord a (value m at 4)) (failed 0xe)) (within-same Four m at)
 
 -- level one
 table-same : (w : ℕ) → tableOf w ≡ bits 31 10 w * 1024
@@ -67,7 +67,7 @@ super-same w = refl
 
 first-tests : (m : List ℕ) (a w : ℕ) (x y z : Bool) →
     translation (walkFrom (cond x (Table (tableOf w)) (cond y (cond z (Section (sectionEntry w (a / pageSize))) (Failing FirstUnmapped)) (Failing FirstUnmapped))) m (a / pageSize))
-    ≡ cond x (descriptor m (bits 31 10 w * 1024 + 4 * (a / pageSize % 256)) 6 (pageWord a)) (cond (y && z) (found (section a w)) (failed 2))
+    ≡ cond x (descriptor m (bits 31 10 w * 1024 + 4 * (a / pageSize % 256)) 0xe (pageWord a)) (cond (y && z) (found (section a w)) (failed 0x5))
 unfolding bits
 first-tests m a w true y z = secondAt-same m (tableOf w) a
 first-tests m a w false true true = ap found (section-same a w)
@@ -87,5 +87,5 @@ walk-same m root a =
     let at : ℕ = root + 4 * (a / sectionSize) in
     ap (λ i. translation (walkFrom (firstFrom (descriptorAt m i) (a / pageSize)) m (a / pageSize))) (place-same root a)
     ∙ push (λ x. translation (walkFrom (firstFrom x (a / pageSize)) m (a / pageSize))) (within Four m at) (Value (numberAt Four m at)) Outside
-    ∙ ap (λ n. cond (within Four m at) n (failed 5)) (first-same m a (numberAt Four m at) ∙ ap (tableWord m a) (number-same Four m at))
-    ∙ ap (λ b. cond b (tableWord m a (value m at 4)) (failed 5)) (within-same Four m at)
+    ∙ ap (λ n. cond (within Four m at) n (failed 0xc)) (first-same m a (numberAt Four m at) ∙ ap (tableWord m a) (number-same Four m at))
+    ∙ ap (λ b. cond b (tableWord m a (value m at 4)) (failed 0xc)) (within-same Four m at)

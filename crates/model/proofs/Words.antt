@@ -1,12 +1,11 @@
 -- One word of the track: the step's adding and its stale test are the reference's.
 use Prim.Native.Nat.{ℕ, suc, _+_, _*_, _-_, _/_, _%_, _^_, _<_}
-use mathlib.Core.Path.{_≡_, refl, sym, ap, ap₂, _∙_}
-use mathlib.Core.Bool.{Bool, true, false, cond, not, _&&_}
+use mathlib.Core.Path.{_≡_, refl, sym, ap, _∙_}
+use mathlib.Core.Bool.{Bool, true, false, cond, not}
 use mathlib.Core.List.{List}
-use native.Mathlib.Nat.{mod-eq-of-lt}
 use native.Mathlib.Omega.{arith}
 use lib.Dec.{eqb, ltb}
-use borrow.Author.Tests.{eqb-true, eqb-false, eq-eqb, ne-eqb, ltb-true, ltb-false, lt-ltb, le-ltb}
+use borrow.Author.Tests.{eqb-true, eqb-false, eq-eqb, ne-eqb, ltb-true, ltb-false}
 use Rattle.model.specs.Limits.{wordLimit}
 use Rattle.model.specs.Numbers.{faultNumber}
 use Rattle.model.specs.reference.Rules.{Translation, found, failed, bits, Kept, empty, one, several, wordOf, entryOf, kept, same, addTo, noted, differs}
@@ -14,12 +13,9 @@ use Rattle.model.specs.step.Memory.{loadAt}
 use Rattle.model.specs.step.Walk.{kindOf, superBit, tableOf, firstOf, firstFrom, firstAt, secondOf, secondFrom, secondAt, walkFrom, walkPage, sectionEntry, largeEntry, smallEntry, descriptorAt}
 use Rattle.model.specs.step.Track.{entryWord, isEntry, addEntry, addOutcome, staleWord}
 use Rattle.model.specs.Types.{Entry, FirstUnmapped, SecondUnmapped, Loaded, Value, Outside, FirstLevel, Failing, Table, Section, Outcome, Mapped, Failed}
-use Rattle.model.proofs.BoolLaws.{same-test, eqb-same, and-both, either}
+use Rattle.model.proofs.BoolLaws.{same-test, eqb-same, either}
+use Rattle.model.proofs.Entries.{Fits, same-true, same-self, decoded}
 use Rattle.model.proofs.Walk.{translation}
-
--- a frame number of 20 bits and an AP of 3
-abbrev pub Fits : Entry → Type 0
-Fits e = (e .frame < 1048576) × (e .ap < 8)
 
 abbrev pub InRange : Outcome → Type 0
 InRange (Mapped e) = Fits e
@@ -27,14 +23,23 @@ InRange (Failed f) = Unit {0}
 
 -- ── Each entry that a walk finds is in range ──
 
+section-fits : (w page : ℕ) → Fits (sectionEntry w page)
+section-fits w page = (omega arith, (omega arith, omega arith))
+
+large-fits : (w page : ℕ) → Fits (largeEntry w page)
+large-fits w page = (omega arith, (omega arith, omega arith))
+
+small-fits : (w : ℕ) → Fits (smallEntry w)
+small-fits w = (omega arith, (omega arith, omega arith))
+
 second-range : (w page : ℕ) → InRange (secondOf w page)
 unfolding secondOf
 second-range w page = go (eqb (kindOf w) 0) (eqb (kindOf w) 1)
   where
     go : (x y : Bool) → InRange (cond x (Failed SecondUnmapped) (cond y (Mapped (largeEntry w page)) (Mapped (smallEntry w))))
     go true y = tt
-    go false true = (omega arith, omega arith)
-    go false false = (omega arith, omega arith)
+    go false true = large-fits w page
+    go false false = small-fits w
 
 second-from : (x : Loaded) (page : ℕ) → InRange (secondFrom x page)
 second-from (Value w) page = second-range w page
@@ -47,7 +52,7 @@ first-range m w page = go (eqb (kindOf w) 1) (eqb (kindOf w) 2) (eqb (superBit w
     go : (x y z : Bool) →
         InRange (walkFrom (cond x (Table (tableOf w)) (cond y (cond z (Section (sectionEntry w page)) (Failing FirstUnmapped)) (Failing FirstUnmapped))) m page)
     go true y z = second-from (descriptorAt m (tableOf w + 4 * (page % 256))) page
-    go false true true = (omega arith, omega arith)
+    go false true true = section-fits w page
     go false true false = tt
     go false false z = tt
 
@@ -70,46 +75,23 @@ single-same : (w : ℕ) → isEntry w ≡ eqb w (wordOf (entryOf w))
 unfolding isEntry wordOf entryOf bits
 single-same w = go (ltb w wordLimit) refl
   where
-    low : w < wordLimit → eqb (w % 512) 2 ≡ eqb w (w / 4096 % 1048576 * 4096 + w / 512 % 8 * 512 + 2)
-    low h = eqb-same (w % 512) 2 w (w / 4096 % 1048576 * 4096 + w / 512 % 8 * 512 + 2) (λ q. omega arith) (λ q. omega arith)
-
-    go : (b : Bool) → ltb w wordLimit ≡ b → cond b (eqb (w % 512) 2) false ≡ eqb w (w / 4096 % 1048576 * 4096 + w / 512 % 8 * 512 + 2)
-    go true e = low (ltb-true w wordLimit e)
-    go false e = let h = ltb-false w wordLimit e in sym (ne-eqb w (w / 4096 % 1048576 * 4096 + w / 512 % 8 * 512 + 2) (omega arith))
-
--- the word of an entry gives its frame and its AP back
-pub decoded : (e : Entry) → Fits e → entryOf (wordOf e) ≡ e
-unfolding wordOf entryOf bits
-decoded e h = λ i. record { frame = frame-is i; ap = ap-is i }
-  where
-    upper : (e .frame * 4096 + e .ap * 512 + 2) / 4096 ≡ e .frame
-    upper = omega arith
-
-    frame-is : (e .frame * 4096 + e .ap * 512 + 2) / 4096 % 1048576 ≡ e .frame
-    frame-is = ap (λ n. n % 1048576) upper ∙ mod-eq-of-lt (h .0)
-
-    lower : (e .frame * 4096 + e .ap * 512 + 2) / 512 ≡ e .frame * 8 + e .ap
-    lower = omega arith
-
-    ap-is : (e .frame * 4096 + e .ap * 512 + 2) / 512 % 8 ≡ e .ap
-    ap-is = ap (λ n. n % 8) lower ∙ (let q : (e .frame * 8 + e .ap) % 8 ≡ e .ap = omega arith in q)
+    go : (b : Bool) → ltb w wordLimit ≡ b → cond b (eqb (w % 256) 2) false ≡ eqb w (wordOf (entryOf w))
+    go true e =
+        let h = ltb-true w wordLimit e in
+        let aps : w / 512 ≡ w / 4096 * 8 + w / 512 % 8 = omega arith in
+        let sections : w / 256 ≡ w / 512 * 2 + w / 256 % 2 = omega arith in
+        eqb-same (w % 256) 2 w (wordOf (entryOf w)) (λ q. omega arith) (λ q. omega arith)
+    go false e = let h = ltb-false w wordLimit e in sym (ne-eqb w (wordOf (entryOf w)) (omega arith))
 
 -- of a word that stands for one entry: it is the word of e exactly if its entry is e
 entry-same : (w : ℕ) (e : Entry) → Fits e → w ≡ wordOf (entryOf w) → eqb w (entryWord e) ≡ same (entryOf w) e
-unfolding wordOf entryOf bits same
-entry-same w e h is = same-test (eqb w (entryWord e)) (eqb (w / 4096 % 1048576) (e .frame) && eqb (w / 512 % 8) (e .ap)) to from
+entry-same w e h is = same-test (eqb w (entryWord e)) (same (entryOf w) e) to from
   where
     to : eqb w (entryWord e) ≡ true → same (entryOf w) e ≡ true
-    to p =
-        let q : entryOf w ≡ e = ap entryOf (eqb-true w (entryWord e) p ∙ word-same e h) ∙ decoded e h in
-        rw (eq-eqb (entryOf w .frame) (e .frame) (ap (λ (x : Entry). x .frame) q), eq-eqb (entryOf w .ap) (e .ap) (ap (λ (x : Entry). x .ap) q))
+    to p = ap (λ x. same x e) (ap entryOf (eqb-true w (entryWord e) p ∙ word-same e h) ∙ decoded e h) ∙ same-self e
 
-    from : (eqb (w / 4096 % 1048576) (e .frame) && eqb (w / 512 % 8) (e .ap)) ≡ true → eqb w (entryWord e) ≡ true
-    from p =
-        let q = and-both (eqb (w / 4096 % 1048576) (e .frame)) (eqb (w / 512 % 8) (e .ap)) p in
-        let frames : w / 4096 % 1048576 ≡ e .frame = eqb-true (w / 4096 % 1048576) (e .frame) (q .0) in
-        let aps : w / 512 % 8 ≡ e .ap = eqb-true (w / 512 % 8) (e .ap) (q .1) in
-        eq-eqb w (entryWord e) (omega arith)
+    from : same (entryOf w) e ≡ true → eqb w (entryWord e) ≡ true
+    from p = eq-eqb w (entryWord e) (is ∙ ap wordOf (same-true (entryOf w) e p) ∙ sym (word-same e h))
 
 pub add-same : (w : ℕ) (e : Entry) → Fits e → addEntry w (entryWord e) ≡ addTo (kept w) e w
 unfolding addEntry kept addTo
@@ -128,8 +110,9 @@ note-same w (Failed f) h = refl
 
 -- a word that stands for no entry is the word of none
 not-single : (w : ℕ) (e : Entry) → Fits e → eqb w (wordOf (entryOf w)) ≡ false → eqb w (entryWord e) ≡ false
-unfolding wordOf entryOf bits
-not-single w e h p = ne-eqb w (entryWord e) (λ q. eqb-false w (wordOf (entryOf w)) p (omega arith))
+not-single w e h p = ne-eqb w (entryWord e) (λ q.
+    let is : w ≡ wordOf e = q ∙ word-same e h in
+    eqb-false w (wordOf (entryOf w)) p (is ∙ ap wordOf (sym (decoded e h)) ∙ ap (λ n. wordOf (entryOf n)) (sym is)))
 
 stale-entry : (w : ℕ) (e : Entry) → Fits e → staleWord w (Mapped e) ≡ differs (kept w) (found e)
 unfolding staleWord kept differs

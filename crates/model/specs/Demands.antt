@@ -67,7 +67,7 @@ pub record Faithful : Type 0 where
 -- Words that no start and no operation leaves, but that may be lent.
 pub record OddWords : Type 0 where
   -- a word that is neither 0 nor the word of an entry counts as several
-  pub counts : (w : ℕ) → (w ≡ 0 → ⊥) → ((e : Entry) → e .frame < 0x100000 → e .ap < 8 → w ≡ wordOf e → ⊥) → kept w ≡ several
+  pub counts : (w : ℕ) → (w ≡ 0 → ⊥) → ((e : Entry) → e .frame < 0x100000 → e .ap < 8 → e .section < 2 → w ≡ wordOf e → ⊥) → kept w ≡ several
   -- a word that counts as several stays as found under noting
   pub stays : (x : Call) → ((r : ℕ) → Given r (conditionsOf x) → ⊥) → (c p : ℕ) → c < contexts (x .track) → p < rowSize →
       kept (trackWord (x .track) c p) ≡ several → flushes (x .operation .kind) (x .operation) c p ≡ false →

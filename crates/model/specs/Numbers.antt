@@ -1,7 +1,7 @@
 -- The numbers that the rules give to kinds, faults and refusals, and what an answer shows.
 use Prim.Native.Nat.{ℕ}
 use mathlib.Core.Option.{Option, none, some}
-use Rattle.model.specs.Types.{Kind, Read, Write, Root, Asid, Mode, All, Addr, Ctx, AddrCtx, Fault, Alignment, FirstUnmapped, SecondUnmapped, Permission, FirstOutside, SecondOutside, AccessOutside, Refusal, WrongSize, WrongAddress, WrongValue, WrongRoot, WrongContext, WrongMode, WrongLengths, WrongRegisters, UserMode, StalePage, Answer, Done, Faulted, Refused, Check, Pass, Refuse}
+use Rattle.model.specs.Types.{Kind, Read, Write, Root, Asid, Mode, All, Addr, Ctx, AddrCtx, Fault, Alignment, FirstUnmapped, SecondUnmapped, SectionPermission, PagePermission, FirstOutside, SecondOutside, AccessOutside, Refusal, WrongSize, WrongAddress, WrongValue, WrongRoot, WrongContext, WrongMode, WrongLengths, WrongRegisters, UserMode, StalePage, Answer, Done, Faulted, Refused, Check, Pass, Refuse}
 
 -- the place of a kind in the rules' list of operations
 abbrev pub kindNumber : Kind → ℕ
@@ -15,14 +15,16 @@ kindNumber Addr = 6
 kindNumber Ctx = 7
 kindNumber AddrCtx = 8
 
+-- the short-descriptor status codes
 abbrev pub faultNumber : Fault → ℕ
-faultNumber Alignment = 1
-faultNumber FirstUnmapped = 2
-faultNumber SecondUnmapped = 3
-faultNumber Permission = 4
-faultNumber FirstOutside = 5
-faultNumber SecondOutside = 6
-faultNumber AccessOutside = 7
+faultNumber Alignment = 0x1
+faultNumber FirstUnmapped = 0x5
+faultNumber SecondUnmapped = 0x7
+faultNumber SectionPermission = 0xd
+faultNumber PagePermission = 0xf
+faultNumber FirstOutside = 0xc
+faultNumber SecondOutside = 0xe
+faultNumber AccessOutside = 0x8
 
 abbrev pub refusalNumber : Refusal → ℕ
 refusalNumber WrongSize = 7

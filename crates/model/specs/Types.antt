@@ -5,7 +5,7 @@ pub use Rattle.model.specs.declared.Kind.the-variants.{Read, Write, Root
 pub use Rattle.model.specs.declared.Operation.{Operation}
 pub use Rattle.model.specs.declared.Entry.{Entry}
 pub use Rattle.model.specs.declared.Fault.{Fault}
-pub use Rattle.model.specs.declared.Fault.the-variants.{Alignment, FirstUnmapped, SecondUnmapped, Permission, FirstOutside, SecondOutside, AccessOutside}
+pub use Rattle.model.specs.declared.Fault.the-variants.{Alignment, FirstUnmapped, SecondUnmapped, SectionPermission, PagePermission, FirstOutside, SecondOutside, AccessOutside}
 pub use Rattle.model.specs.declared.Refusal.{Refusal}
 pub use Rattle.model.specs.declared.Refusal.the-variants.{WrongSize, WrongAddress, WrongValue, WrongRoot, WrongContext, WrongMode, WrongLengths, WrongRegisters, UserMode, StalePage}
 pub use Rattle.model.specs.declared.Answer.{Answer}

@@ -41,7 +41,7 @@ settings =
       reportText 32768 imageA (quoted
           "op,a,b,c\nread,1000,4,0\nwrite,404,4,4832\nread,1000,4,0\naddr,1000,0,0\nread,1000,4,0\nread,1002,4,0\nread,2000,1,0\nmode,1,0,0\nread,404,4,0\nall,0,0,0\n"),
       quoted
-          "line,op,answer,value\n2,read,ok,12345678\n3,write,ok,0\n4,read,refused,10\n5,addr,ok,0\n6,read,ok,11223344\n7,read,fault,1\n8,read,fault,3\n9,mode,ok,0\na,read,fault,4\nb,all,refused,f\n",
+          "line,op,answer,value\n2,read,ok,12345678\n3,write,ok,0\n4,read,refused,10\n5,addr,ok,0\n6,read,ok,11223344\n7,read,fault,1\n8,read,fault,7\n9,mode,ok,0\na,read,fault,f\nb,all,refused,f\n",
     )
     -- eight contexts
     ∷ (reportText 32768 imageA (quoted "op,a,b,c\nasid,7,0,0\nasid,8,0,0\n"), quoted "line,op,answer,value\n2,asid,ok,0\n3,asid,refused,b\n")

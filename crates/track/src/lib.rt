@@ -27,7 +27,7 @@ const MIB: usize = 256;
 pub fn is_entry(w: u32) -> bool
     ensures { λ r. ⌜ r ≡ isEntry w ⌝ }
 {
-    w % 512 == 2
+    w % 256 == 2
 }
 
 // A word after the entry with word v was added to its set.

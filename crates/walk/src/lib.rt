@@ -17,18 +17,19 @@ use model::Loaded;
 use model::Outcome;
 use model::Size;
 
-// The number of a fault.
+// The short-descriptor status code of a fault.
 pub fn fault_number(f: Fault) -> u32
     ensures { λ r. ⌜ (r ≡ faultNumber f) × (r < 16) ⌝ }
 {
     match f {
         Fault::Alignment => 1,
-        Fault::FirstUnmapped => 2,
-        Fault::SecondUnmapped => 3,
-        Fault::Permission => 4,
-        Fault::FirstOutside => 5,
-        Fault::SecondOutside => 6,
-        Fault::AccessOutside => 7,
+        Fault::FirstUnmapped => 5,
+        Fault::SecondUnmapped => 7,
+        Fault::SectionPermission => 13, // 0xd
+        Fault::PagePermission => 15, // 0xf
+        Fault::FirstOutside => 12, // 0xc
+        Fault::SecondOutside => 14, // 0xe
+        Fault::AccessOutside => 8,
     }
 }
 
@@ -69,7 +70,7 @@ pub fn walk(m: &[u8], root: u32, page: usize) -> Outcome
 pub fn entry_word(e: Entry) -> u32
     ensures { λ r. ⌜ r ≡ entryWord e ⌝ }
 {
-    e.frame % 1048576 * 4096 + e.ap % 8 * 512 + 2
+    e.frame % 1048576 * 4096 + e.ap % 8 * 512 + e.section % 2 * 256 + 2
 }
 
 // What a walk finds, as a number: an entry's track word, or 0x100000000 plus a fault.

@@ -18,11 +18,24 @@ fn single_walks() {
     let image = image_a();
     assert_eq!(calls::walk(&image, 0, 0), 0x202);
     assert_eq!(calls::walk(&image, 0, 0x1000), 0x3602);
-    assert_eq!(calls::walk(&image, 0, 0x2000), FAULT + 3);
+    assert_eq!(calls::walk(&image, 0, 0x2000), FAULT + 7);
+    assert_eq!(calls::walk(&image, 0, 0x10_0000), FAULT + 5);
     assert_eq!(calls::walk(&image, 0, 0x40_0000), REFUSAL + 8);
     assert_eq!(calls::walk(&image, 1, 0), REFUSAL + 0xa);
     assert_eq!(calls::walk(&image[..5000], 0, 0), REFUSAL + 0xd);
     assert_eq!(calls::walk(&[], 0, 0), REFUSAL + 0xd);
+}
+
+/// A section's word has bit 8 set; the words of a walk outside memory, at either level.
+#[test]
+fn sections_and_walks_outside_memory() {
+    let mut image = image_a();
+    for (at, word) in [(0x4, 0x3002_0C02_u32), (0x8, 0x8001)] {
+        image[at..at + 4].copy_from_slice(&word.to_le_bytes());
+    }
+    assert_eq!(calls::walk(&image, 0, 0x1A_B000), 0x300A_B702);
+    assert_eq!(calls::walk(&image, 0x8000, 0), FAULT + 0xc);
+    assert_eq!(calls::walk(&image, 0, 0x20_0000), FAULT + 0xe);
 }
 
 #[test]
@@ -41,9 +54,9 @@ fn the_list() {
         ([ADDR, 0x1000, 0, 0], 0),
         ([READ, 0x1000, 4, 0], 0x1122_3344),
         ([READ, 0x1002, 4, 0], FAULT + 1),
-        ([READ, 0x2000, 1, 0], FAULT + 3),
+        ([READ, 0x2000, 1, 0], FAULT + 7),
         ([MODE, 1, 0, 0], 0),
-        ([READ, 0x404, 4, 0], FAULT + 4),
+        ([READ, 0x404, 4, 0], FAULT + 0xf),
         ([ALL, 0, 0, 0], REFUSAL + 15),
     ];
     for (number, (operation, answer)) in lines.iter().enumerate() {

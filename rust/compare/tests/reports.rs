@@ -3,6 +3,7 @@ use compare::{cases, keep, Tally};
 use model::generate::{self, damaged};
 use model::list::report;
 use model::random::Random;
+use model::walk::fault;
 
 /// A list, and sometimes something wrong with its bytes.
 fn list(random: &mut Random, memory: u32) -> Vec<u8> {
@@ -72,7 +73,8 @@ fn reports() {
         }
     }
     let named = |word: &str, n: u32| (word.to_string(), format!("{n:x}"));
-    let faults = (1..=7).map(|n| named("fault", n));
+    let faults = fault::OF_WALKS.into_iter().chain(fault::OF_ACCESSES);
+    let faults = faults.map(|n| named("fault", n));
     let refusals = (1..=16).filter(|n| *n != 14).map(|n| named("refused", n));
     seen.must_have("reports", faults.chain(refusals));
 }
@@ -121,6 +123,65 @@ fn asid_then_root() {
         "5,read,ok,401",
         "6,root,ok,0",
         "7,read,refused,10",
+    ];
+    assert_eq!(found, expected);
+}
+
+/// The second MiB is a section at 0, AP 3, or 256 pages alike, by one word at 4; both have nG set.
+/// The old entries stand in the sets of contexts 0 and 1 when the word changes, in context 1.
+#[test]
+fn a_section_split_and_pages_joined() {
+    let pages: Vec<(usize, u32)> = (0..256)
+        .map(|page| (0x1000 + 4 * page as usize, page << 12 | 0x832))
+        .collect();
+    for (old, new) in [(0x2_0C02, 0x1001), (0x1001, 0x2_0C02)] {
+        let level_one = [(0x0, 0x401), (0x400, 0x832), (0x4, old)];
+        let image = image(&[&level_one, &pages[..]].concat());
+        let found = lines(
+            &image,
+            &format!(
+                "asid,1,0,0\nwrite,4,4,{new:x}\nread,100000,4,0\nread,1ff000,4,0\nctx,1,0,0\n\
+                 read,100000,4,0\nread,1ff000,4,0\nasid,0,0,0\nread,100000,4,0\nasid,1,0,0\n\
+                 write,4,4,{old:x}\nwrite,4,4,{new:x}\nread,100000,4,0\n"
+            ),
+        );
+        let expected = [
+            "2,asid,ok,0",
+            "3,write,ok,0",
+            "4,read,refused,10",
+            "5,read,refused,10",
+            "6,ctx,ok,0",
+            "7,read,ok,401",
+            "8,read,fault,8",
+            "9,asid,ok,0",
+            "a,read,refused,10",
+            "b,asid,ok,0",
+            "c,write,ok,0",
+            "d,write,ok,0",
+            "e,read,refused,10",
+        ];
+        assert_eq!(found, expected, "{old:x} to {new:x}");
+    }
+}
+
+/// Changed and changed back in context 1, without a flush: trusted in context 0, whose sets hold the
+/// first entries alone.
+#[test]
+fn a_section_split_and_joined_again() {
+    let level_one = [(0x0, 0x401), (0x400, 0x832), (0x4, 0x2_0C02)];
+    let image = image(&[&level_one[..], &[(0x1000, 0x832)]].concat());
+    let found = lines(
+        &image,
+        "asid,1,0,0\nwrite,4,4,1001\nwrite,4,4,20c02\nread,100000,4,0\nasid,0,0,0\n\
+         read,100000,4,0\n",
+    );
+    let expected = [
+        "2,asid,ok,0",
+        "3,write,ok,0",
+        "4,write,ok,0",
+        "5,read,refused,10",
+        "6,asid,ok,0",
+        "7,read,ok,401",
     ];
     assert_eq!(found, expected);
 }

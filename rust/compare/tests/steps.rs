@@ -4,6 +4,7 @@ use compare::{cases, keep, Tally};
 use model::generate::{self, damaged};
 use model::machine::{Answer, Machine, Operation, Registers};
 use model::random::Random;
+use model::walk::fault;
 
 fn number(answer: Answer) -> u64 {
     match answer {
@@ -28,11 +29,13 @@ fn lent(random: &mut Random) -> Lent {
     let mut track = machine.track();
     for _ in 0..random.below(40) {
         let at = random.below(track.len() as u64) as usize;
-        track[at] = match random.below(5) {
+        track[at] = match random.below(6) {
             0 => random.word(),
             1 => 1,
-            2 => random.word() & 0xFFFF_FE00 | 2,
-            3 => *random.pick(&[3, 7, 0x102, u32::MAX]),
+            2 => random.word() & 0xFFFF_FF00 | 2,
+            3 => *random.pick(&[3, 7, 0x100, 0x106, 0x182, u32::MAX]),
+            // Of a page in place of a section, or the other way round.
+            4 => track[at] ^ 0x100,
             _ => 0,
         };
     }
@@ -115,9 +118,9 @@ fn single_steps_on_lent_states() {
             }
         }
     }
-    let faults = (1..=7).map(Answer::Fault);
+    let faults = fault::OF_WALKS.into_iter().chain(fault::OF_ACCESSES);
     let refusals = (7..=16).map(Answer::Refused);
-    seen.must_have("steps", faults.chain(refusals));
+    seen.must_have("steps", faults.map(Answer::Fault).chain(refusals));
     let common = [
         (13, 14),
         (13, 7),

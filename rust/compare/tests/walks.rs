@@ -2,7 +2,7 @@
 use compare::{cases, keep, Tally};
 use model::generate;
 use model::random::Random;
-use model::walk::single_walk;
+use model::walk::{fault, single_walk};
 
 /// An image of a length that fits or does not, with descriptors that lead in and out of memory.
 fn image(random: &mut Random) -> Vec<u8> {
@@ -47,7 +47,7 @@ fn walks() {
             seen.add((found >> 32, if found >> 32 == 0 { 0 } else { found as u32 }));
         }
     }
-    let faults = [5, 2, 6, 3].map(|n| (1, n));
+    let faults = fault::OF_WALKS.map(|n| (1, n));
     let refusals = [13, 10, 8].map(|n| (2, n));
     seen.must_have("walks", [(0, 0)].into_iter().chain(faults).chain(refusals));
 }

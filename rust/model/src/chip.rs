@@ -1,5 +1,5 @@
 //! The plain machine, which has no TLB, and a chip with a TLB of n places.
-use crate::machine::{effect, flushes, Answer, Operation, Registers};
+use crate::machine::{effect, flushes, Answer, Operation, Registers, NOT_TRANSLATED};
 use crate::random::Random;
 use crate::walk::{walk, Entry, Fault};
 
@@ -31,7 +31,7 @@ impl Plain {
         let outcome = if operation.is_access() {
             self.outcome(operation.a)
         } else {
-            Err(2)
+            NOT_TRANSLATED
         };
         effect(&mut self.memory, &mut self.registers, operation, outcome)
     }
@@ -97,7 +97,7 @@ impl Chip {
             let held = self.held(operation.a >> 12);
             held.map_or_else(|| self.plain.outcome(operation.a), Ok)
         } else {
-            Err(2)
+            NOT_TRANSLATED
         };
         let Plain { memory, registers } = &mut self.plain;
         let answer = effect(memory, registers, operation, outcome);

@@ -21,6 +21,11 @@ pub fn image_a() -> Vec<u8> {
 /// The bytes of memory in which the generated tables lie: a page of roots, then tables.
 const TABLES: u32 = 0x2000;
 
+/// A level-one word that maps a MiB by a section at 0, AP 3, nG set, and one that maps it page by
+/// page to the same frames with the same rights, by a table of generated images.
+const MIB: [u32; 2] = [0x2_0C02, EQUAL_PAGES | 1];
+const EQUAL_PAGES: u32 = 0x1C00;
+
 /// The pages that generated lists touch.
 pub const PAGES: [u32; 12] = [0, 1, 2, 3, 4, 16, 17, 256, 257, 300, 512, 1023];
 
@@ -77,6 +82,9 @@ pub fn image(random: &mut Random) -> Vec<u8> {
         put(table, 0x032);
         put(table + 4, 0x1032);
     }
+    for page in 0..256 {
+        put(EQUAL_PAGES + 4 * page, page << 12 | 0x832);
+    }
     bytes
 }
 
@@ -91,7 +99,7 @@ pub fn operation(random: &mut Random, contexts: u32, memory: u32) -> Operation {
     let size = *random.pick(&[1, 2, 4, 4, 4, 4]);
     let aligned = at / size * size;
     let op = |kind, a, b, c| Operation { kind, a, b, c };
-    match random.below(20) {
+    match random.below(24) {
         0..=4 => op(Kind::Read, aligned, size, 0),
         5 => op(Kind::Read, at, size, 0),
         6..=7 => {
@@ -108,7 +116,12 @@ pub fn operation(random: &mut Random, contexts: u32, memory: u32) -> Operation {
         16 => op(Kind::All, 0, 0, 0),
         17 => op(Kind::Addr, at, 0, 0),
         18 => op(Kind::Ctx, context, 0, 0),
-        _ => op(Kind::AddrCtx, at, context, 0),
+        19 => op(Kind::AddrCtx, at, context, 0),
+        // Splits a section into equal pages, or joins them.
+        _ => {
+            let at = *random.pick(&ROOTS) + *random.pick(&[4, 4, 8, 0xC]);
+            op(Kind::Write, at, 4, *random.pick(&MIB))
+        }
     }
 }
 

@@ -1,5 +1,5 @@
 //! The machine: registers, what a TLB may remember, and the operations with their checks.
-use crate::walk::{number, walk, word, Entry, Fault};
+use crate::walk::{fault, number, walk, word, Entry, Fault};
 use std::collections::{BTreeMap, BTreeSet};
 
 #[derive(Clone, Copy, PartialEq, Eq, PartialOrd, Ord, Debug)]
@@ -60,6 +60,9 @@ pub enum Answer {
     Refused(u32),
 }
 
+/// What stands for the outcome of an operation that translates nothing.
+pub const NOT_TRANSLATED: Result<Entry, Fault> = Err(0);
+
 /// What the kernel and the user may do, by AP.
 const RIGHTS: [[&str; 2]; 8] = [
     ["", ""],
@@ -102,17 +105,21 @@ fn access(
     outcome: Result<Entry, Fault>,
 ) -> Result<u32, Fault> {
     if !operation.is_aligned() {
-        return Err(1);
+        return Err(fault::ALIGNMENT);
     }
     let entry = outcome?;
     let writes = operation.kind == Kind::Write;
     let right = if writes { "w" } else { "r" };
     if !RIGHTS[entry.ap as usize][mode as usize].contains(right) {
-        return Err(4);
+        return Err(if entry.section {
+            fault::PERMISSION_SECTION
+        } else {
+            fault::PERMISSION_PAGE
+        });
     }
     let at = u64::from(entry.frame) << 12 | u64::from(operation.a & 0xFFF);
     let size = operation.b as usize;
-    let value = number(memory, at, size).ok_or(7_u32)?;
+    let value = number(memory, at, size).ok_or(fault::ACCESS_OUTSIDE)?;
     if !writes {
         return Ok(value);
     }
@@ -158,6 +165,7 @@ impl Machine {
             let entry = Entry {
                 frame: found >> 12,
                 ap: found >> 9 & 7,
+                section: found >> 8 & 1 == 1,
             };
             let remembered = match found {
                 0 => continue,
@@ -275,7 +283,7 @@ impl Machine {
         }
         let outcome = match operation.kind {
             Kind::Read | Kind::Write => self.outcome(operation.a),
-            _ => Err(2),
+            _ => NOT_TRANSLATED,
         };
         let answer = effect(&mut self.memory, &mut self.registers, operation, outcome);
         self.sets

@@ -8,10 +8,40 @@ pub struct Entry {
     pub frame: u32,
     /// AP[2:0].
     pub ap: u32,
+    /// Whether a section maps it, and not a page.
+    pub section: bool,
 }
 
-/// Why an operation carried out gave no value, by the number of the rules.
+/// Why an operation carried out gave no value: a short-descriptor fault status code.
 pub type Fault = u32;
+
+/// The status codes, in the order in which an access meets them.
+pub mod fault {
+    pub const ALIGNMENT: u32 = 0x1;
+    pub const WALK_OUTSIDE_FIRST: u32 = 0xC;
+    pub const UNMAPPED_FIRST: u32 = 0x5;
+    pub const WALK_OUTSIDE_SECOND: u32 = 0xE;
+    pub const UNMAPPED_SECOND: u32 = 0x7;
+    pub const PERMISSION_SECTION: u32 = 0xD;
+    pub const PERMISSION_PAGE: u32 = 0xF;
+    pub const ACCESS_OUTSIDE: u32 = 0x8;
+
+    /// Those of a walk.
+    pub const OF_WALKS: [u32; 4] = [
+        WALK_OUTSIDE_FIRST,
+        UNMAPPED_FIRST,
+        WALK_OUTSIDE_SECOND,
+        UNMAPPED_SECOND,
+    ];
+
+    /// Those of the rest of an access.
+    pub const OF_ACCESSES: [u32; 4] = [
+        ALIGNMENT,
+        PERMISSION_SECTION,
+        PERMISSION_PAGE,
+        ACCESS_OUTSIDE,
+    ];
+}
 
 /// The bits of a word, the highest first as the rules write them.
 fn bits(word: u32, range: RangeInclusive<u32>) -> u32 {
@@ -30,12 +60,13 @@ pub fn number(memory: &[u8], at: u64, size: usize) -> Option<u32> {
 /// The walk of a virtual address below 0x400000.
 pub fn walk(memory: &[u8], root: u32, address: u32) -> Result<Entry, Fault> {
     let at = u64::from(root) + 4 * u64::from(address / 0x10_0000);
-    let first = number(memory, at, 4).ok_or(5_u32)?;
+    let first = number(memory, at, 4).ok_or(fault::WALK_OUTSIDE_FIRST)?;
     match bits(first, 0..=1) {
         1 => {
             let table = u64::from(first & 0xFFFF_FC00);
             let at = table + 4 * u64::from(address / 0x1000 % 256);
-            page(number(memory, at, 4).ok_or(6_u32)?, address)
+            let second = number(memory, at, 4).ok_or(fault::WALK_OUTSIDE_SECOND)?;
+            page(second, address)
         }
         2 if bits(first, 18..=18) == 0 => {
             let physical = (first & 0xFFF0_0000) | (address & 0x000F_FFFF);
@@ -43,15 +74,16 @@ pub fn walk(memory: &[u8], root: u32, address: u32) -> Result<Entry, Fault> {
             Ok(Entry {
                 frame: physical >> 12,
                 ap,
+                section: true,
             })
         }
-        _ => Err(2),
+        _ => Err(fault::UNMAPPED_FIRST),
     }
 }
 
 fn page(second: u32, address: u32) -> Result<Entry, Fault> {
     let physical = match bits(second, 0..=1) {
-        0 => return Err(3),
+        0 => return Err(fault::UNMAPPED_SECOND),
         1 => (second & 0xFFFF_0000) | (address & 0xFFFF),
         _ => (second & 0xFFFF_F000) | (address & 0xFFF),
     };
@@ -59,12 +91,13 @@ fn page(second: u32, address: u32) -> Result<Entry, Fault> {
     Ok(Entry {
         frame: physical >> 12,
         ap,
+        section: false,
     })
 }
 
 /// The track word of one entry.
 pub fn word(entry: Entry) -> u32 {
-    entry.frame << 12 | entry.ap << 9 | 2
+    entry.frame << 12 | entry.ap << 9 | u32::from(entry.section) << 8 | 2
 }
 
 /// The walk as the C function answers it.

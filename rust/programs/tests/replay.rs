@@ -21,8 +21,8 @@ fn the_listing() {
     let list = "read,1000,4,0\nwrite,404,4,4832\nread,1000,4,0\naddr,1000,0,0\nread,1000,4,0\n\
                 read,1002,4,0\nread,2000,1,0\nmode,1,0,0\nread,404,4,0\nall,0,0,0\n";
     let report = "2,read,ok,12345678\n3,write,ok,0\n4,read,refused,10\n5,addr,ok,0\n\
-                  6,read,ok,11223344\n7,read,fault,1\n8,read,fault,3\n9,mode,ok,0\n\
-                  a,read,fault,4\nb,all,refused,f\n";
+                  6,read,ok,11223344\n7,read,fault,1\n8,read,fault,7\n9,mode,ok,0\n\
+                  a,read,fault,f\nb,all,refused,f\n";
     assert_eq!(lines(&format!("{NAMES}{list}")), report);
 }
 

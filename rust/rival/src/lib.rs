@@ -51,6 +51,9 @@ fn load(memory: &[u8], at: usize) -> Option<u32> {
     Some(u32::from_le_bytes([bytes[0], bytes[1], bytes[2], bytes[3]]))
 }
 
+/// The bit of a track word that tells an entry of a section.
+const SECTION: u32 = 1 << 8;
+
 /// Whether a level-one word points to a table.
 fn is_table(first: u32) -> bool {
     first & 3 == 1
@@ -64,16 +67,16 @@ fn is_section(first: u32) -> bool {
 /// The track word of a section's page.
 fn section(first: u32, page: usize) -> u32 {
     let ap = first >> 13 & 4 | first >> 10 & 3;
-    first & 0xFFF0_0000 | (page as u32 & 0xFF) << 12 | ap << 9 | 2
+    first & 0xFFF0_0000 | (page as u32 & 0xFF) << 12 | ap << 9 | SECTION | 2
 }
 
 /// The track word of a page by the table of a level-one word, or its fault.
 fn by_table(memory: &[u8], first: u32, page: usize) -> Result<u32, u32> {
     let table = (first & !0x3FF) as usize;
-    let second = load(memory, table + 4 * (page & 0xFF)).ok_or(6_u32)?;
+    let second = load(memory, table + 4 * (page & 0xFF)).ok_or(0xE_u32)?;
     let ap = second >> 7 & 4 | second >> 4 & 3;
     match second & 3 {
-        0 => Err(3),
+        0 => Err(7),
         1 => Ok(second & 0xFFFF_0000 | (page as u32 & 0xF) << 12 | ap << 9 | 2),
         _ => Ok(second & 0xFFFF_F000 | ap << 9 | 2),
     }
@@ -81,21 +84,21 @@ fn by_table(memory: &[u8], first: u32, page: usize) -> Result<u32, u32> {
 
 /// The track word of a page, or its fault.
 fn walk(memory: &[u8], root: u32, page: usize) -> Result<u32, u32> {
-    let first = load(memory, root as usize + 4 * (page >> 8)).ok_or(5_u32)?;
+    let first = load(memory, root as usize + 4 * (page >> 8)).ok_or(0xC_u32)?;
     if is_table(first) {
         return by_table(memory, first, page);
     }
     if is_section(first) {
         return Ok(section(first, page));
     }
-    Err(2)
+    Err(5)
 }
 
 /// Adds an entry to a page's set.
 fn add(word: &mut u32, entry: u32) {
     if *word == 0 {
         *word = entry;
-    } else if *word != entry && *word & 0x1FF == 2 {
+    } else if *word != entry && *word & 0xFF == 2 {
         *word = 1;
     }
 }
@@ -180,11 +183,12 @@ impl Machine {
         };
         let rights = RIGHTS[(entry >> 9 & 7) as usize][self.mode as usize];
         if rights < 1 + u32::from(writes) {
-            return Answer::Fault(4);
+            let from_section = entry & SECTION != 0;
+            return Answer::Fault(if from_section { 0xD } else { 0xF });
         }
         let at = (entry >> 12) as usize * 4096 + (a & 0xFFF) as usize;
         let Some(bytes) = self.memory.get_mut(at..at + size as usize) else {
-            return Answer::Fault(7);
+            return Answer::Fault(8);
         };
         if writes {
             bytes.copy_from_slice(&value.to_le_bytes()[..size as usize]);
@@ -250,7 +254,7 @@ fn read_line(text: &[u8]) -> Result<(usize, [u32; 3]), u32> {
         return Err(4);
     };
     let kind = NAMES.iter().position(|(n, _)| n.as_bytes() == name);
-    let kind = kind.ok_or(5_u32)?;
+    let kind = kind.ok_or(0xC_u32)?;
     let fields = [a, b, c];
     if fields[NAMES[kind].1..].iter().any(|field| *field != 0) {
         return Err(6);

@@ -9,7 +9,7 @@ fn held(random: &mut Random, now: Option<u32>) -> u32 {
         0 => 0,
         1 => 1,
         2 => now.unwrap_or(0),
-        _ => random.word() & !0x1FF | 2,
+        _ => random.word() & !0xFF | 2,
     }
 }
 

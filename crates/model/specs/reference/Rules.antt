@@ -35,31 +35,32 @@ pub data Translation : Type 0 where
 unfoldable pub descriptor : List ℕ → ℕ → ℕ → (ℕ → Translation) → Translation
 descriptor m at n f = cond (inMemory m at 4) (f (value m at 4)) (failed n)
 
--- Section: base bits 31..20, AP[2] bit 15, AP[1:0] bits 11..10; the missing frame bits come from the address.
+-- Section: base bits 31..20, AP[2] bit 15, AP[1:0] bits 11..10; the missing frame bits come from the address. An entry records
+-- whether it came from a section: 1 here, 0 for pages.
 unfoldable pub section : ℕ → ℕ → Entry
-section a w = record { frame = bits 31 20 w * 256 + a / pageSize % 256; ap = bits 15 15 w * 4 + bits 11 10 w }
+section a w = record { frame = bits 31 20 w * 256 + a / pageSize % 256; ap = bits 15 15 w * 4 + bits 11 10 w; section = 1 }
 
 -- Large page: base bits 31..16. Small page: base bits 31..12. For both, AP[2] is bit 9 and AP[1:0] bits 5..4.
 unfoldable pub largePage : ℕ → ℕ → Entry
-largePage a w = record { frame = bits 31 16 w * 16 + a / pageSize % 16; ap = bits 9 9 w * 4 + bits 5 4 w }
+largePage a w = record { frame = bits 31 16 w * 16 + a / pageSize % 16; ap = bits 9 9 w * 4 + bits 5 4 w; section = 0 }
 
 unfoldable pub smallPage : ℕ → Entry
-smallPage w = record { frame = bits 31 12 w; ap = bits 9 9 w * 4 + bits 5 4 w }
+smallPage w = record { frame = bits 31 12 w; ap = bits 9 9 w * 4 + bits 5 4 w; section = 0 }
 
--- Level two. Low two bits 0: no mapping. 1: large page. 2 or 3: small page.
+-- Level two. Low two bits 0: no mapping, fault 7. 1: large page. 2 or 3: small page.
 unfoldable pub pageWord : ℕ → ℕ → Translation
-pageWord a w = cond (eqb (bits 1 0 w) 0) (failed 3) (cond (eqb (bits 1 0 w) 1) (found (largePage a w)) (found (smallPage w)))
+pageWord a w = cond (eqb (bits 1 0 w) 0) (failed 0x7) (cond (eqb (bits 1 0 w) 1) (found (largePage a w)) (found (smallPage w)))
 
--- Level one. Low two bits 0 or 3: no mapping. 1: table at bits 31..10, and the level-two word at table base + 4 × (address /
--- 4,096 % 256). 2 with bit 18 clear: section; set: no mapping.
+-- Level one. Low two bits 0 or 3: no mapping, fault 5. 1: table at bits 31..10, and the level-two word at table base + 4 ×
+-- (address / 4,096 % 256); fault 0xe where that word is not in memory. 2 with bit 18 clear: section; set: no mapping.
 unfoldable pub tableWord : List ℕ → ℕ → ℕ → Translation
 tableWord m a w =
-    cond (eqb (bits 1 0 w) 1) (descriptor m (bits 31 10 w * 1024 + 4 * (a / pageSize % 256)) 6 (pageWord a))
-    (cond (eqb (bits 1 0 w) 2 && eqb (bits 18 18 w) 0) (found (section a w)) (failed 2))
+    cond (eqb (bits 1 0 w) 1) (descriptor m (bits 31 10 w * 1024 + 4 * (a / pageSize % 256)) 0xe (pageWord a))
+    (cond (eqb (bits 1 0 w) 2 && eqb (bits 18 18 w) 0) (found (section a w)) (failed 0x5))
 
--- the walk of an address, in memory m from this root
+-- the walk of an address, in memory m from this root; fault 0xc where the level-one word is not in memory
 unfoldable pub walk : List ℕ → ℕ → ℕ → Translation
-walk m root a = descriptor m (root + 4 * (a / sectionSize)) 5 (tableWord m a)
+walk m root a = descriptor m (root + 4 * (a / sectionSize)) 0xc (tableWord m a)
 
 -- The physical address is frame × 4,096 + address % 4,096.
 unfoldable pub physical : Entry → ℕ → ℕ
@@ -107,17 +108,21 @@ unfoldable pub touched : Bool → ℕ → ℕ → ℕ → State → Result × St
 touched writes at size v s =
     cond writes (ok 0, record { memory = stored (s .memory) at size v; registers = s .registers }) (ok (value (s .memory) at size), s)
 
--- An address with its translation: a fault of the walk; fault 4, permission; fault 7, bytes not in memory; the bytes.
+-- permission, by the entry used: fault 0xd where it came from a section, 0xf where it came from a page
+unfoldable pub permissionFault : Entry → ℕ
+permissionFault e = cond (eqb (e .section) 1) 0xd 0xf
+
+-- An address with its translation: a fault of the walk; permission; fault 8, bytes not in memory; the bytes.
 unfoldable pub translated : Bool → ℕ → ℕ → ℕ → State → Translation → Result × State
 translated writes a size v s (failed n) = (fault n, s)
 translated writes a size v s (found e) =
     cond (allows (rightOf (e .ap) (s .registers .mode)) writes)
-    (cond (inMemory (s .memory) (physical e a) size) (touched writes (physical e a) size v s) (fault 7, s))
-    (fault 4, s)
+    (cond (inMemory (s .memory) (physical e a) size) (touched writes (physical e a) size v s) (fault 0x8, s))
+    (fault (permissionFault e), s)
 
 -- A read or write: fault 1, address not a multiple of the size; else the address is translated.
 unfoldable pub access : Bool → Operation → State → (ℕ → Translation) → Result × State
-access writes o s f = cond (aligned (o .a) (o .b)) (translated writes (o .a) (o .b) (o .c) s (f (o .a))) (fault 1, s)
+access writes o s f = cond (aligned (o .a) (o .b)) (translated writes (o .a) (o .b) (o .c) s (f (o .a))) (fault 0x1, s)
 
 unfoldable pub setRegisters : State → ℕ → ℕ → ℕ → Result × State
 setRegisters s root context mode = (ok 0, record { memory = s .memory; registers = record { root = root; context = context; mode = mode } })
@@ -225,19 +230,23 @@ pub data Kept : Type 0 where
   one : Entry → Kept
   several : Kept
 
--- The word of one entry: frame in bits 31..12, AP in bits 11..9, bit 1 set, other bits clear.
+-- The word of one entry: frame in bits 31..12, AP in bits 11..9, section in bit 8, bit 1 set, other bits clear.
 unfoldable pub wordOf : Entry → ℕ
-wordOf e = e .frame * 4096 + e .ap * 512 + 2
+wordOf e = e .frame * 4096 + e .ap * 512 + e .section * 256 + 2
 
 unfoldable pub entryOf : ℕ → Entry
-entryOf w = record { frame = bits 31 12 w; ap = bits 11 9 w }
+entryOf w = record { frame = bits 31 12 w; ap = bits 11 9 w; section = bits 8 8 w }
 
 -- A word is 0 for an empty set and the entry's word for one entry. 1, and any other word, counts as several.
 unfoldable pub kept : ℕ → Kept
 kept w = cond (eqb w 0) empty (cond (eqb w (wordOf (entryOf w))) (one (entryOf w)) several)
 
+-- Two entries are the same if they are in every field.
 unfoldable pub same : Entry → Entry → Bool
-same x y = eqb (x .frame) (y .frame) && eqb (x .ap) (y .ap)
+same x y =
+    eqb (x .frame) (y .frame)
+    && eqb (x .ap) (y .ap)
+    && eqb (x .section) (y .section)
 
 -- A word after an entry was added to its set. A word that counts as several stays as found.
 unfoldable pub addTo : Kept → Entry → ℕ → ℕ

@@ -12,7 +12,7 @@ use Rattle.model.specs.step.Walk.{walkPage}
 use Rattle.model.specs.step.Rights.{permitted}
 use Rattle.model.specs.step.Track.{noteTrack, flushAll, flushPage, flushContext, flushPageIn, wordAt, staleWord}
 use Rattle.model.specs.step.Checks.{checks, startChecks, firstFailing}
-use Rattle.model.specs.Types.{Registers, Returned, Operation, Kind, Read, Write, Root, Asid, Mode, All, Addr, Ctx, AddrCtx, Entry, Alignment, Permission, AccessOutside, Refusal, StalePage, Answer, Done, Faulted, Refused, Size, One, Two, Four, Loaded, Value, Outside, Outcome, Mapped, Failed, Check, Pass, Refuse, Access, Stale, Fails, Physical}
+use Rattle.model.specs.Types.{Registers, Returned, Operation, Kind, Read, Write, Root, Asid, Mode, All, Addr, Ctx, AddrCtx, Entry, Alignment, Fault, SectionPermission, PagePermission, AccessOutside, Refusal, StalePage, Answer, Done, Faulted, Refused, Size, One, Two, Four, Loaded, Value, Outside, Outcome, Mapped, Failed, Check, Pass, Refuse, Access, Stale, Fails, Physical}
 
 -- What a start or an operation gives: what it returns, and what it leaves in memory and track.
 pub record After : Type 0 where
@@ -45,13 +45,17 @@ sizeOf b = cond (eqb b 1) One (cond (eqb b 2) Two Four)
 abbrev pub physicalOf : Entry → ℕ → ℕ
 physicalOf e a = e .frame * pageSize + a % pageSize
 
+-- permission, by the entry used
+unfoldable pub permissionFaultOf : Entry → Fault
+permissionFaultOf e = cond (eqb (e .section) 1) SectionPermission PagePermission
+
 -- an access to a page with this outcome: permission, then the bytes
 abbrev pub granted : Outcome → ℕ → Bool → Size → ℕ → List ℕ → Access
 granted (Failed f) mode writes size a m = Fails f
 granted (Mapped e) mode writes size a m =
     cond (permitted (e .ap) mode writes)
     (cond (within size m (physicalOf e a)) (Physical (physicalOf e a)) (Fails AccessOutside))
-    (Fails Permission)
+    (Fails (permissionFaultOf e))
 
 -- an access to a page with this outcome and track word
 unfoldable pub decided : Outcome → ℕ → ℕ → Bool → Size → ℕ → List ℕ → Access

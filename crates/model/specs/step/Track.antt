@@ -11,11 +11,11 @@ use Rattle.model.specs.Types.{Entry, Outcome, Mapped, Failed}
 
 -- the word of one entry
 abbrev pub entryWord : Entry → ℕ
-entryWord e = e .frame % 1048576 * 4096 + e .ap % 8 * 512 + 2
+entryWord e = e .frame % 1048576 * 4096 + e .ap % 8 * 512 + e .section % 2 * 256 + 2
 
 -- whether a word stands for one entry
 unfoldable pub isEntry : ℕ → Bool
-isEntry w = cond (ltb w wordLimit) (eqb (w % 512) 2) false
+isEntry w = cond (ltb w wordLimit) (eqb (w % 256) 2) false
 
 -- a word after the entry with word v was added to its set
 unfoldable pub addEntry : ℕ → ℕ → ℕ

@@ -15,13 +15,13 @@ pageAp w = w / 512 % 2 * 4 + w / 16 % 4
 
 -- the entries of the three kinds of mapping, for one page
 abbrev pub sectionEntry : ℕ → ℕ → Entry
-sectionEntry w page = record { frame = w / 1048576 % 4096 * 256 + page % 256; ap = sectionAp w }
+sectionEntry w page = record { frame = w / 1048576 % 4096 * 256 + page % 256; ap = sectionAp w; section = 1 }
 
 abbrev pub largeEntry : ℕ → ℕ → Entry
-largeEntry w page = record { frame = w / 65536 % 65536 * 16 + page % 16; ap = pageAp w }
+largeEntry w page = record { frame = w / 65536 % 65536 * 16 + page % 16; ap = pageAp w; section = 0 }
 
 abbrev pub smallEntry : ℕ → Entry
-smallEntry w = record { frame = w / 4096 % 1048576; ap = pageAp w }
+smallEntry w = record { frame = w / 4096 % 1048576; ap = pageAp w; section = 0 }
 
 -- a descriptor is a word of memory
 abbrev pub descriptorAt : List ℕ → ℕ → Loaded
