@@ -34,22 +34,24 @@ enum {
     WUZHAMBEN_ASID,    /* a the new context */
     WUZHAMBEN_MODE,    /* a the new mode, 0 kernel or 1 user */
     WUZHAMBEN_ALL,     /* flushes everything */
-    WUZHAMBEN_ADDR,    /* flushes the page of a in every context */
-    WUZHAMBEN_CTX,     /* flushes context a */
-    WUZHAMBEN_ADDRCTX  /* flushes the page of a in context b */
+    WUZHAMBEN_ADDR,    /* flushes the page of a in every context, and its global entry */
+    WUZHAMBEN_CTX,     /* flushes context a, but no global entry */
+    WUZHAMBEN_ADDRCTX  /* flushes the page of a in context b, and its global entry whatever b is */
 };
 
 /* The walk of one virtual address through the tables at `root` in an image of 4,096 to 16,777,216 bytes (a multiple of 4,096). The
- * value is the entry's track word: frame in bits 31..12, AP in bits 11..9, bit 8 set for a section, bit 1 set. */
+ * value is the entry's track word: frame in bits 31..12, AP in bits 11..9, bit 8 set for a section, bit 7 set where nG is clear (the
+ * entry is global), bit 1 set. */
 uint64_t walk_image(const uint8_t *image, size_t image_length, uint32_t root, uint32_t address);
 
-/* A start from `memory`, which is only read. It empties and notes `track`, which has 1,024 words for each of 1 to 256 contexts, and
- * leaves root, context and mode in the three words of `registers`. A refused start leaves zero registers and the track as it was. */
+/* A start from `memory`, which is only read. It empties and notes `track`, which has 1,024 words for each of 1 to 256 contexts and 1,024
+ * more for the global entries, and leaves root, context and mode in the three words of `registers`. The number of contexts is told by
+ * `track_length` alone: track_length / 1024 - 1. A refused start leaves zero registers and the track as it was. */
 uint64_t machine_start(const uint8_t *memory, size_t memory_length, uint32_t *track, size_t track_length, uint32_t root,
                        uint32_t *registers, size_t registers_length);
 
-/* One operation of four words, with the registers that the call before returned and the memory and track that it left. All three hold
- * afterwards what the operation left; a refused one changes none of them. */
+/* One operation of four words, with the registers that the call before returned and the memory and track that it left, of the same
+ * lengths. All three hold afterwards what the operation left; a refused one changes none of them. */
 uint64_t machine_step(const uint32_t *operation, size_t operation_length, uint32_t *registers, size_t registers_length,
                       uint8_t *memory, size_t memory_length, uint32_t *track, size_t track_length);
 

@@ -114,14 +114,22 @@ pub fn grant(o: Outcome, mode: u32, writes: bool, size: Size, a: u32, m: &[u8]) 
     }
 }
 
-// An access to a page with this outcome and track word.
-pub fn decide(o: Outcome, w: u32, mode: u32, writes: bool, size: Size, a: u32, m: &[u8]) -> Access
-    ensures { λ r. ⌜ r ≡ decided o w mode writes size a (now (m .entry)) ⌝ }
+// An access to a page with this outcome, which is stale or not.
+pub fn decide(
+    o: Outcome,
+    stale: bool,
+    mode: u32,
+    writes: bool,
+    size: Size,
+    a: u32,
+    m: &[u8],
+) -> Access
+    ensures { λ r. ⌜ r ≡ decided o stale mode writes size a (now (m .entry)) ⌝ }
 {
     let n = memory::bytes(size);
     let rest = a as usize % n;
     if rest == 0 {
-        if track::is_stale(w, o) {
+        if stale {
             return Access::Stale;
         }
         return grant(o, mode, writes, size, a, m);
@@ -135,6 +143,6 @@ pub fn access_at(r: Registers, m: &[u8], t: &[u32], writes: bool, size: Size, a:
 {
     let page = a as usize / 4096; // pageSize
     let o = walk::walk(m, r.root, page);
-    let w = track::word_at(t, r.context, page);
-    decide(o, w, r.mode, writes, size, a, m)
+    let stale = track::is_stale_page(t, r.context, page, o);
+    decide(o, stale, r.mode, writes, size, a, m)
 }

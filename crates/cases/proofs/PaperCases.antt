@@ -26,8 +26,8 @@ sent m a = placed (walkPage m 0 (a / pageSize)) a
 pub paperCases : List (ℕ × ℕ)
 unfolding next
 paperCases =
-    -- image A, on a track full of an odd word; its list; a page unmapped and restored
-    let start = started imageA (replicate 1024 7) 0 in
+    -- image A, on a track of one context and the global row, full of an odd word; its list; a page unmapped and restored
+    let start = started imageA (replicate 2048 7) 0 in
     let line2 = next Read 0x1000 4 0 start in
     let line3 = next Write 0x404 4 0x4832 line2 in
     let line4 = next Read 0x1000 4 0 line3 in

@@ -53,7 +53,7 @@ severalEach c x (p ∷ ps) = (wordAt (x .track) c p, 1) ∷ severalEach c x ps
 changing : ℕ → ℕ → ℕ → ℕ → List (ℕ × ℕ)
 unfolding next
 changing old new oldWord newWord =
-    let both = next Asid 1 0 0 (started (mibImage old) (replicate 2048 0) 0x80) in
+    let both = next Asid 1 0 0 (started (mibImage old) (replicate 3072 0) 0x80) in
     let changed = remap new both in
     let flushed1 = next Ctx 1 0 0 changed in
     let flushed0 = next Ctx 0 0 0 changed in

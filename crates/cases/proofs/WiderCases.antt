@@ -1,5 +1,5 @@
 -- Cases beyond those that the rules mark P, as one table: what the step's definitions compute, and what the rules say.
-use Prim.Native.Nat.{ℕ, _+_, _*_, _/_, _%_}
+use Prim.Native.Nat.{ℕ, _+_, _*_, _-_, _/_, _%_}
 use mathlib.Core.Path.{_≡_, refl}
 use mathlib.Core.Bool.{Bool, true, false, cond}
 use mathlib.Core.List.{List, [], _∷_, _++_}
@@ -14,10 +14,10 @@ use Rattle.model.specs.step.Checks.{checks, startChecks, firstFailing}
 use Rattle.model.specs.step.Machine.{After, started}
 use Rattle.model.specs.declared.Registers.{Registers}
 use Rattle.model.specs.declared.Operation.{Operation}
+use Rattle.model.specs.declared.Entry.{Entry}
 use Rattle.model.specs.declared.Kind.{Kind}
 use Rattle.model.specs.declared.Kind.the-variants.{Read, Write, Root, Asid, Mode, All, Addr, Ctx, AddrCtx}
 use Rattle.model.specs.declared.Fault.the-variants.{SecondUnmapped, FirstOutside}
-use Rattle.model.specs.declared.Answer.the-variants.{Done}
 use Rattle.model.specs.declared.Size.the-variants.{Four}
 use Rattle.model.specs.declared.FirstLevel.{FirstLevel}
 use Rattle.model.specs.declared.FirstLevel.the-variants.{Failing, Table, Section}
@@ -27,6 +27,7 @@ use Rattle.model.specs.declared.Check.{Check}
 use Rattle.model.specs.declared.Check.the-variants.{Pass, Refuse}
 use Rattle.model.proofs.CaseTools.{allMatch, put, zeros, imageA, next, faultCode, refusalCode, answered}
 use Rattle.cases.proofs.SplitCases.{splitAndJoined}
+use Rattle.cases.proofs.GlobalCases.{given, globalEntries}
 
 -- 1 where it holds, 0 where not
 abbrev bit : Bool → ℕ
@@ -44,7 +45,7 @@ same (x ∷ xs) (y ∷ ys) = cond (eqb x y) (same xs ys) false
 listing : List (ℕ × ℕ)
 unfolding next
 listing =
-    let start = started imageA (replicate 1024 0) 0 in
+    let start = started imageA (replicate 2048 0) 0 in
     let line2 = next Read 0x1000 4 0 start in
     let line3 = next Write 0x404 4 0x4832 line2 in
     let line4 = next Read 0x1000 4 0 line3 in
@@ -89,15 +90,22 @@ permissions =
     ++ rights 6 (1, 0) (1, 0)
     ++ rights 7 (1, 0) (1, 0)
 
--- the entry of a section's page, and of a page, as one number; an outcome: an entry or a fault
-abbrev fromSection : ℕ → ℕ → ℕ
-fromSection frame ap = frame * 16 + ap * 2 + 1
+-- the entry of a section's page, and of a page, as one number: one context's own with nG set, global with nG clear
+abbrev ownSection : ℕ → ℕ → ℕ
+ownSection frame ap = frame * 32 + ap * 4 + 2
 
-abbrev fromPage : ℕ → ℕ → ℕ
-fromPage frame ap = frame * 16 + ap * 2
+abbrev globalSection : ℕ → ℕ → ℕ
+globalSection frame ap = frame * 32 + ap * 4 + 3
 
+abbrev ownPage : ℕ → ℕ → ℕ
+ownPage frame ap = frame * 32 + ap * 4
+
+abbrev globalPage : ℕ → ℕ → ℕ
+globalPage frame ap = frame * 32 + ap * 4 + 1
+
+-- an outcome: an entry or a fault
 abbrev outcome : Outcome → ℕ
-outcome (Mapped e) = e .frame * 16 + e .ap * 2 + e .section
+outcome (Mapped e) = e .frame * 32 + e .ap * 4 + e .section * 2 + e .global
 outcome (Failed f) = faultCode (faultNumber f)
 
 -- the outcome of a page under root 0 with this level-one word
@@ -119,20 +127,25 @@ sections : List (ℕ × ℕ)
 unfolding next
 sections =
     -- the kind bits alone; base, bits 20 and 31; AP[2], bit 15; AP[1:0], bits 10 and 11
-    (first 0x00000002 0, fromSection 0 0)
-    ∷ (first 0x00100002 0, fromSection 0x100 0)
-    ∷ (first 0x80000002 0, fromSection 0x80000 0)
-    ∷ (first 0x00008002 0, fromSection 0 4)
-    ∷ (first 0x00000402 0, fromSection 0 1)
-    ∷ (first 0x00000802 0, fromSection 0 2)
+    (first 0x00000002 0, globalSection 0 0)
+    ∷ (first 0x00100002 0, globalSection 0x100 0)
+    ∷ (first 0x80000002 0, globalSection 0x80000 0)
+    ∷ (first 0x00008002 0, globalSection 0 4)
+    ∷ (first 0x00000402 0, globalSection 0 1)
+    ∷ (first 0x00000802 0, globalSection 0 2)
     -- every bit of base and AP, and the same with every ignored bit; every ignored bit alone
-    ∷ (first 0xFFF08C02 0, fromSection 0xFFF00 7)
-    ∷ (first 0xFFFBFFFE 0, fromSection 0xFFF00 7)
-    ∷ (first 0x000B73FE 0, fromSection 0 0)
+    ∷ (first 0xFFF08C02 0, globalSection 0xFFF00 7)
+    ∷ (first 0xFFF9FFFE 0, globalSection 0xFFF00 7)
+    ∷ (first 0x000973FE 0, globalSection 0 0)
+    -- nG, bit 17: alone, with every ignored bit, and with every other bit; bit 11 is AP's
+    ∷ (first 0x00020002 0, ownSection 0 0)
+    ∷ (first 0x000B73FE 0, ownSection 0 0)
+    ∷ (first 0xFFFBFFFE 0, ownSection 0xFFF00 7)
+    ∷ (first 0x00020802 0, ownSection 0 2)
     -- the low eight frame bits come from the page
-    ∷ (first 0x12300002 0x101, fromSection 0x12301 0)
-    ∷ (first 0x12300002 0x180, fromSection 0x12380 0)
-    ∷ (first 0x12300002 0x3A5, fromSection 0x123A5 0)
+    ∷ (first 0x12300002 0x101, globalSection 0x12301 0)
+    ∷ (first 0x12300002 0x180, globalSection 0x12380 0)
+    ∷ (first 0x12300002 0x3A5, globalSection 0x123A5 0)
     -- bit 18 set: no mapping
     ∷ (first 0x00040002 0, faultCode 0x5)
     ∷ (first 0xFFFFFFFE 0, faultCode 0x5)
@@ -148,6 +161,7 @@ tables : List (ℕ × ℕ)
 unfolding next
 tables =
     let atBase = put 0x400 0x12345032 zeros in
+    let ownAtBase = put 0x400 0x12345832 zeros in
     let atEnd = put 0x8C 0x401 (put 0x7FC 0x12345032 zeros) in
     -- the kind bits alone; base, bits 10 and 31
     (tableBase (firstOf 0x00000001 0), 0)
@@ -158,17 +172,20 @@ tables =
     ∷ (tableBase (firstOf 0xFFFFFFFD 0), 0xFFFFFC00)
     ∷ (tableBase (firstOf 0x000003FD 0), 0)
     -- the same by walks, with a level-two word at 0x400
-    ∷ (outcome (walkPage (put 0 0x00000401 atBase) 0 0), fromPage 0x12345 3)
-    ∷ (outcome (walkPage (put 0 0x000007FD atBase) 0 0), fromPage 0x12345 3)
+    ∷ (outcome (walkPage (put 0 0x00000401 atBase) 0 0), globalPage 0x12345 3)
+    ∷ (outcome (walkPage (put 0 0x000007FD atBase) 0 0), globalPage 0x12345 3)
     ∷ (outcome (walkPage (put 0 0x80000401 atBase) 0 0), faultCode 0xE)
+    -- no bit of the level-one word is the nG of its pages
+    ∷ (outcome (walkPage (put 0 0x00000401 ownAtBase) 0 0), ownPage 0x12345 3)
+    ∷ (outcome (walkPage (put 0 0x000007FD ownAtBase) 0 0), ownPage 0x12345 3)
     -- the level-one word of page 0x3FF is at 0xC from the root, its level-two word at 0x3FC from the table's base
-    ∷ (outcome (walkPage atEnd 0x80 0x3FF), fromPage 0x12345 3)
+    ∷ (outcome (walkPage atEnd 0x80 0x3FF), globalPage 0x12345 3)
     ∷ (outcome (walkPage atEnd 0x80 0x3FE), faultCode 0x7)
     ∷ (outcome (walkPage atEnd 0x80 0x2FF), faultCode 0x5)
     -- at each level the last words of memory, and the first behind them
-    ∷ (outcome (walkPage (put 0xF8C 0x12300002 zeros) 0xF80 0x300), fromSection 0x12300 0)
+    ∷ (outcome (walkPage (put 0xF8C 0x12300002 zeros) 0xF80 0x300), globalSection 0x12300 0)
     ∷ (outcome (walkPage zeros 0x1000 0), faultCode 0xC)
-    ∷ (outcome (walkPage (put 0 0xC01 (put 0xFFC 0x12345032 zeros)) 0 0xFF), fromPage 0x12345 3)
+    ∷ (outcome (walkPage (put 0 0xC01 (put 0xFFC 0x12345032 zeros)) 0 0xFF), globalPage 0x12345 3)
     ∷ (outcome (walkPage (put 0 0x1001 zeros) 0 0), faultCode 0xE)
     ∷ []
 
@@ -177,58 +194,69 @@ pages : List (ℕ × ℕ)
 unfolding next
 pages =
     -- large page: the kind bits alone; base, bits 16 and 31; AP[2], bit 9; AP[1:0], bits 4 and 5
-    (second 0x00000001 0, fromPage 0 0)
-    ∷ (second 0x00010001 0, fromPage 0x10 0)
-    ∷ (second 0x80000001 0, fromPage 0x80000 0)
-    ∷ (second 0x00000201 0, fromPage 0 4)
-    ∷ (second 0x00000011 0, fromPage 0 1)
-    ∷ (second 0x00000021 0, fromPage 0 2)
+    (second 0x00000001 0, globalPage 0 0)
+    ∷ (second 0x00010001 0, globalPage 0x10 0)
+    ∷ (second 0x80000001 0, globalPage 0x80000 0)
+    ∷ (second 0x00000201 0, globalPage 0 4)
+    ∷ (second 0x00000011 0, globalPage 0 1)
+    ∷ (second 0x00000021 0, globalPage 0 2)
     -- every bit of base and AP, and the same with every ignored bit; every ignored bit alone
-    ∷ (second 0xFFFF0231 0, fromPage 0xFFFF0 7)
-    ∷ (second 0xFFFFFFFD 0, fromPage 0xFFFF0 7)
-    ∷ (second 0x0000FDCD 0, fromPage 0 0)
+    ∷ (second 0xFFFF0231 0, globalPage 0xFFFF0 7)
+    ∷ (second 0xFFFFF7FD 0, globalPage 0xFFFF0 7)
+    ∷ (second 0x0000F5CD 0, globalPage 0 0)
+    -- nG, bit 11: alone, with every ignored bit, and with every other bit; bit 17 is the base's
+    ∷ (second 0x00000801 0, ownPage 0 0)
+    ∷ (second 0x0000FDCD 0, ownPage 0 0)
+    ∷ (second 0xFFFFFFFD 0, ownPage 0xFFFF0 7)
+    ∷ (second 0x00020001 0, globalPage 0x20 0)
+    ∷ (second 0x00020801 0, ownPage 0x20 0)
     -- the low four frame bits come from the page
-    ∷ (second 0x12340001 0x101, fromPage 0x12341 0)
-    ∷ (second 0x12340001 0x108, fromPage 0x12348 0)
-    ∷ (second 0x12340001 0x3A5, fromPage 0x12345 0)
-    ∷ (second 0x12340001 0x1F0, fromPage 0x12340 0)
+    ∷ (second 0x12340001 0x101, globalPage 0x12341 0)
+    ∷ (second 0x12340001 0x108, globalPage 0x12348 0)
+    ∷ (second 0x12340001 0x3A5, globalPage 0x12345 0)
+    ∷ (second 0x12340001 0x1F0, globalPage 0x12340 0)
     -- small page: the kind bits alone; base, bits 12 and 31; AP[2], bit 9; AP[1:0], bits 4 and 5
-    ∷ (second 0x00000002 0, fromPage 0 0)
-    ∷ (second 0x00001002 0, fromPage 1 0)
-    ∷ (second 0x80000002 0, fromPage 0x80000 0)
-    ∷ (second 0x00000202 0, fromPage 0 4)
-    ∷ (second 0x00000012 0, fromPage 0 1)
-    ∷ (second 0x00000022 0, fromPage 0 2)
+    ∷ (second 0x00000002 0, globalPage 0 0)
+    ∷ (second 0x00001002 0, globalPage 1 0)
+    ∷ (second 0x80000002 0, globalPage 0x80000 0)
+    ∷ (second 0x00000202 0, globalPage 0 4)
+    ∷ (second 0x00000012 0, globalPage 0 1)
+    ∷ (second 0x00000022 0, globalPage 0 2)
     -- every bit of base and AP, and the same with every ignored bit; every ignored bit alone
-    ∷ (second 0xFFFFF232 0, fromPage 0xFFFFF 7)
-    ∷ (second 0xFFFFFFFE 0, fromPage 0xFFFFF 7)
-    ∷ (second 0x00000DCE 0, fromPage 0 0)
+    ∷ (second 0xFFFFF232 0, globalPage 0xFFFFF 7)
+    ∷ (second 0xFFFFF7FE 0, globalPage 0xFFFFF 7)
+    ∷ (second 0x000005CE 0, globalPage 0 0)
+    -- nG, bit 11: alone, with every ignored bit, and with every other bit; bit 17 is the base's
+    ∷ (second 0x00000802 0, ownPage 0 0)
+    ∷ (second 0x00000DCE 0, ownPage 0 0)
+    ∷ (second 0xFFFFFFFE 0, ownPage 0xFFFFF 7)
+    ∷ (second 0x00020002 0, globalPage 0x20 0)
+    ∷ (second 0x00020802 0, ownPage 0x20 0)
     -- kind 3 is a small page too
-    ∷ (second 0x00000003 0, fromPage 0 0)
-    ∷ (second 0x12345213 0, fromPage 0x12345 5)
-    ∷ (second 0xFFFFFFFF 0, fromPage 0xFFFFF 7)
+    ∷ (second 0x00000003 0, globalPage 0 0)
+    ∷ (second 0x12345213 0, globalPage 0x12345 5)
+    ∷ (second 0xFFFFF7FF 0, globalPage 0xFFFFF 7)
+    ∷ (second 0x000005CF 0, globalPage 0 0)
+    ∷ (second 0x00000803 0, ownPage 0 0)
+    ∷ (second 0x00000DCF 0, ownPage 0 0)
+    ∷ (second 0xFFFFFFFF 0, ownPage 0xFFFFF 7)
     -- no frame bit of a small page comes from the page
-    ∷ (second 0x12340002 0x3A5, fromPage 0x12340 0)
+    ∷ (second 0x12340002 0x3A5, globalPage 0x12340 0)
     -- kind 0: no mapping
     ∷ (second 0x00000000 0, faultCode 0x7)
     ∷ (second 0xFFFFFFFC 0, faultCode 0x7)
     ∷ []
 
--- The small image has two maps and two words of data.
+-- The small image has two maps and two words of data. Every mapping has nG set, so that the entries are a context's own.
 -- Under root 0x80: page 0 frame 0, AP 3; page 1 frame 0, AP 1; page 2 no mapping; page 3 frame 0, AP 7;
 -- from page 0x100 no mapping; from 0x200 a section at 0x300000, AP 1, not in memory; from 0x300 a table not in memory.
 -- Under root 0x100: page 0 frame 5, AP 3; page 1 frame 0, AP 1; page 2 frame 6, AP 3; no other mapping.
 abbrev smallImage : List ℕ
 smallImage =
-    put 0x80 0x401 (put 0x88 0x300402 (put 0x8C 0x2001
-    (put 0x400 0x32 (put 0x404 0x12 (put 0x40C 0x232
-    (put 0x100 0x801 (put 0x800 0x5032 (put 0x804 0x12 (put 0x808 0x6032
+    put 0x80 0x401 (put 0x88 0x320402 (put 0x8C 0x2001
+    (put 0x400 0x832 (put 0x404 0x812 (put 0x40C 0xA32
+    (put 0x100 0x801 (put 0x800 0x5832 (put 0x804 0x812 (put 0x808 0x6832
     (put 0x10 0x44332211 (put 0x14 0x88776655 zeros)))))))))))
-
--- registers, memory and track as an operation is given them
-abbrev given : ℕ → ℕ → ℕ → List ℕ → List ℕ → After
-given root context mode m t =
-    record { answer = Done 0; registers = record { root = root; context = context; mode = mode }; memory = m; track = t }
 
 -- registers as one number, and those that an operation returned
 abbrev packed : ℕ → ℕ → ℕ → ℕ
@@ -237,9 +265,9 @@ packed root context mode = root * 4096 + context * 16 + mode
 abbrev returned : After → ℕ
 returned x = packed (x .registers .root) (x .registers .context) (x .registers .mode)
 
--- two contexts with every set empty
+-- two contexts and the global row, with every set empty
 abbrev emptyTrack : List ℕ
-emptyTrack = replicate 2048 0
+emptyTrack = replicate 3072 0
 
 -- an operation's answer, and that registers and memory stay as they were
 abbrev keeping : After → After → ℕ → List (ℕ × ℕ)
@@ -259,7 +287,7 @@ abbrev inBoth : ℕ → Kind → ℕ → ℕ → ℕ → ℕ → List ℕ → Li
 inBoth n k a b c root m = faulting n k a b c (given root 1 0 m emptyTrack) ++ faulting n k a b c (given root 1 1 m emptyTrack)
 
 -- The guarded image maps frame 0 with AP 5, by a section from page 0, a large page at page 0x100 and a small page at page 0x110; from
--- page 0x200 a section at 0x300000, AP 3, not in memory.
+-- page 0x200 a section at 0x300000, AP 3, not in memory; nG is set in each.
 abbrev guardedImage : List ℕ
 guardedImage = put 0x80 0x28402 (put 0x84 0x401 (put 0x400 0xA11 (put 0x440 0xA12 (put 0x88 0x320C02 (put 0x10 0x44332211 zeros)))))
 
@@ -306,10 +334,11 @@ refusals small =
     ++ refusing 10 Root 0x40 0 0 kernel
     ++ refusing 11 Asid 2 0 0 kernel
     ++ refusing 12 Mode 2 0 0 kernel
-    ++ refusing 13 Mode 0 0 0 (given 0x80 0 0 small (replicate 1025 0))
+    ++ refusing 13 Mode 0 0 0 (given 0x80 0 0 small (replicate 2049 0))
     ++ refusing 14 Mode 0 0 0 (given 0x80 2 0 small emptyTrack)
     ++ refusing 15 All 0 0 0 user
     ++ refusing 16 Read 0x10 4 0 (given 0x80 1 0 small (set emptyTrack 1024 0x1602))
+    ++ refusing 16 Read 0x10 4 0 (given 0x80 1 0 small (set emptyTrack 2048 0x1682))
 
 -- the first check that fails, as its refusal's number, or 0
 abbrev refusal : Check → ℕ
@@ -325,33 +354,55 @@ checked m t root context mode k a b c =
 
 -- the same in kernel and in user mode, with two contexts
 abbrev inKernel : Kind → ℕ → ℕ → ℕ → ℕ
-inKernel k a b c = checked 4096 2048 0x80 1 0 k a b c
+inKernel k a b c = checked 4096 3072 0x80 1 0 k a b c
 
 abbrev inUser : Kind → ℕ → ℕ → ℕ → ℕ
-inUser k a b c = checked 4096 2048 0x80 1 1 k a b c
+inUser k a b c = checked 4096 3072 0x80 1 1 k a b c
 
 -- The condition of each refusal but 16, by the checks alone.
 conditions : List (ℕ × ℕ)
 unfolding next
 conditions =
     -- 13: memory a multiple of 4,096 from 4,096 to 16,777,216
-    (checked 0 1024 0 0 0 Mode 0 0 0, 13)
-    ∷ (checked 4095 1024 0 0 0 Mode 0 0 0, 13)
-    ∷ (checked 4096 1024 0 0 0 Mode 0 0 0, 0)
-    ∷ (checked 6144 1024 0 0 0 Mode 0 0 0, 13)
-    ∷ (checked 16777216 1024 0 0 0 Mode 0 0 0, 0)
-    ∷ (checked 16781312 1024 0 0 0 Mode 0 0 0, 13)
-    -- 13: track 1,024 × k, k from 1 to 256
+    (checked 0 2048 0 0 0 Mode 0 0 0, 13)
+    ∷ (checked 4095 2048 0 0 0 Mode 0 0 0, 13)
+    ∷ (checked 4096 2048 0 0 0 Mode 0 0 0, 0)
+    ∷ (checked 6144 2048 0 0 0 Mode 0 0 0, 13)
+    ∷ (checked 16777216 2048 0 0 0 Mode 0 0 0, 0)
+    ∷ (checked 16781312 2048 0 0 0 Mode 0 0 0, 13)
+    -- 13: track 1,024 × (k + 1), k from 1 to 256: no row, one row, a part of a row too few or too many, 2 and 257 rows, 258 rows
     ∷ (checked 4096 0 0 0 0 Mode 0 0 0, 13)
     ∷ (checked 4096 1023 0 0 0 Mode 0 0 0, 13)
+    ∷ (checked 4096 1024 0 0 0 Mode 0 0 0, 13)
     ∷ (checked 4096 1536 0 0 0 Mode 0 0 0, 13)
-    ∷ (checked 4096 262144 0 255 0 Mode 0 0 0, 0)
-    ∷ (checked 4096 263168 0 0 0 Mode 0 0 0, 13)
+    ∷ (checked 4096 2047 0 0 0 Mode 0 0 0, 13)
+    ∷ (checked 4096 2048 0 0 0 Mode 0 0 0, 0)
+    ∷ (checked 4096 2049 0 0 0 Mode 0 0 0, 13)
+    ∷ (checked 4096 2560 0 0 0 Mode 0 0 0, 13)
+    ∷ (checked 4096 263168 0 255 0 Mode 0 0 0, 0)
+    ∷ (checked 4096 263169 0 255 0 Mode 0 0 0, 13)
+    ∷ (checked 4096 264192 0 0 0 Mode 0 0 0, 13)
     -- 14: root a multiple of 0x80, context below k, mode 0 or 1
-    ∷ (checked 4096 2048 0x40 1 1 Mode 0 0 0, 14)
-    ∷ (checked 4096 2048 0x80 2 1 Mode 0 0 0, 14)
-    ∷ (checked 4096 2048 0x80 1 2 Mode 0 0 0, 14)
-    ∷ (checked 4096 2048 0xFFFFFF80 1 1 Mode 0 0 0, 0)
+    ∷ (checked 4096 3072 0x40 1 1 Mode 0 0 0, 14)
+    ∷ (checked 4096 3072 0x80 2 1 Mode 0 0 0, 14)
+    ∷ (checked 4096 3072 0x80 1 2 Mode 0 0 0, 14)
+    ∷ (checked 4096 3072 0xFFFFFF80 1 1 Mode 0 0 0, 0)
+    -- k is the number of rows less one: context k − 1 passes 14 and 11, context k, the number of the global row, does not
+    ∷ (checked 4096 2048 0x80 0 0 Mode 0 0 0, 0)
+    ∷ (checked 4096 2048 0x80 1 0 Mode 0 0 0, 14)
+    ∷ (checked 4096 4096 0x80 2 0 Mode 0 0 0, 0)
+    ∷ (checked 4096 4096 0x80 3 0 Mode 0 0 0, 14)
+    ∷ (checked 4096 263168 0x80 256 0 Mode 0 0 0, 14)
+    ∷ (checked 4096 2048 0x80 0 0 Asid 0 0 0, 0)
+    ∷ (checked 4096 2048 0x80 0 0 Asid 1 0 0, 11)
+    ∷ (checked 4096 4096 0x80 0 0 Asid 2 0 0, 0)
+    ∷ (checked 4096 4096 0x80 0 0 Asid 3 0 0, 11)
+    ∷ (checked 4096 4096 0x80 0 0 Ctx 2 0 0, 0)
+    ∷ (checked 4096 4096 0x80 0 0 Ctx 3 0 0, 11)
+    ∷ (checked 4096 4096 0x80 0 0 AddrCtx 0 2 0, 0)
+    ∷ (checked 4096 4096 0x80 0 0 AddrCtx 0 3 0, 11)
+    ∷ (checked 4096 263168 0x80 0 0 Asid 255 0 0, 0)
+    ∷ (checked 4096 263168 0x80 0 0 Asid 256 0 0, 11)
     -- 7: size
     ∷ (inKernel Read 0 0 0, 7)
     ∷ (inKernel Read 0 1 0, 0)
@@ -408,8 +459,8 @@ order : List (ℕ × ℕ)
 unfolding next
 order =
     -- 13 before 14, 14 before 7, 7 before 8, 8 before 9, 8 before 11
-    (checked 4095 2048 0x40 2 2 Read 0 4 0, 13)
-    ∷ (checked 4096 2048 0x80 2 0 Read 0 3 0, 14)
+    (checked 4095 3072 0x40 2 2 Read 0 4 0, 13)
+    ∷ (checked 4096 3072 0x80 2 0 Read 0 3 0, 14)
     ∷ (inKernel Read 0x400000 3 0, 7)
     ∷ (inKernel Write 0x400000 1 0x100, 8)
     ∷ (inKernel AddrCtx 0x400000 2 0, 8)
@@ -421,19 +472,22 @@ order =
     ∷ (inUser Ctx 2 0 0, 11)
     ∷ (inUser AddrCtx 0 2 0, 11)
     -- start: 13, 10, and 13 before 10
-    ∷ (refusal (firstFailing (startChecks 4096 1024 0x80)), 0)
-    ∷ (refusal (firstFailing (startChecks 4095 1024 0x80)), 13)
-    ∷ (refusal (firstFailing (startChecks 4096 1023 0x80)), 13)
-    ∷ (refusal (firstFailing (startChecks 4096 1024 0x40)), 10)
-    ∷ (refusal (firstFailing (startChecks 4095 1024 0x40)), 13)
+    ∷ (refusal (firstFailing (startChecks 4096 2048 0x80)), 0)
+    ∷ (refusal (firstFailing (startChecks 4095 2048 0x80)), 13)
+    ∷ (refusal (firstFailing (startChecks 4096 2047 0x80)), 13)
+    ∷ (refusal (firstFailing (startChecks 4096 2048 0x40)), 10)
+    ∷ (refusal (firstFailing (startChecks 4095 2048 0x40)), 13)
+    -- the rows of its track are counted as those of an operation
+    ∷ (refusal (firstFailing (startChecks 4096 0 0x80)), 13)
+    ∷ (refusal (firstFailing (startChecks 4096 1024 0x80)), 13)
+    ∷ (refusal (firstFailing (startChecks 4096 263168 0x80)), 0)
+    ∷ (refusal (firstFailing (startChecks 4096 264192 0x80)), 13)
     ∷ []
 
--- The place of refusal 16: behind fault 1, before every other fault.
-staleOrder : List ℕ → List (ℕ × ℕ)
+-- The place of refusal 16: behind fault 1, before every other fault. The track has one context.
+orderOf16 : List ℕ → List ℕ → List (ℕ × ℕ)
 unfolding next
-staleOrder small =
-    -- every word is an entry that no map of the small image has
-    let stale : List ℕ = replicate 1024 0x7002 in
+orderOf16 small stale =
     let kernel = given 0x80 0 0 small stale in
     let user = given 0x80 0 1 small stale in
     -- fault 1 before 16
@@ -446,19 +500,35 @@ staleOrder small =
     ∷ (answered (next Read 0x2010 4 0 kernel), refusalCode 16)
     ∷ (answered (next Read 0x1010 4 0 user), refusalCode 16)
     ∷ (answered (next Read 0x200010 4 0 kernel), refusalCode 16)
-    -- the words of another context don't matter
-    ∷ (answered (next Read 0x10 4 0 (given 0x80 1 0 small (stale ++ replicate 1024 0))), 0x44332211)
     ∷ []
 
--- the words of pages 0, 1 and 2 in context 0, and in context 1
-abbrev tracked : After → ℕ × ℕ × ℕ → ℕ × ℕ × ℕ → List (ℕ × ℕ)
-tracked x row0 row1 =
+-- The order is the same where the pages are stale by the context's row and where they are by the global row.
+staleOrder : List ℕ → List (ℕ × ℕ)
+unfolding next orderOf16
+staleOrder small =
+    -- every word of a row is an entry that no map of the small image has
+    let stale : List ℕ = replicate 1024 0x7002 in
+    let staleGlobal : List ℕ = replicate 1024 0x7082 in
+    let free : List ℕ = replicate 1024 0 in
+    orderOf16 small (stale ++ free)
+    ++ orderOf16 small (free ++ staleGlobal)
+    -- the words of another context don't matter, those of the global row do in every context
+    ++ (answered (next Read 0x10 4 0 (given 0x80 1 0 small (stale ++ (free ++ free)))), 0x44332211)
+    ∷ (answered (next Read 0x10 4 0 (given 0x80 1 0 small (free ++ (free ++ staleGlobal)))), refusalCode 16)
+    ∷ []
+
+-- the words of pages 0, 1 and 2 in context 0, in context 1 and in the global row
+abbrev tracked : After → ℕ × ℕ × ℕ → ℕ × ℕ × ℕ → ℕ × ℕ × ℕ → List (ℕ × ℕ)
+tracked x row0 row1 shared =
     (wordAt (x .track) 0 0, row0 .0)
     ∷ (wordAt (x .track) 0 1, row0 .1)
     ∷ (wordAt (x .track) 0 2, row0 .2)
     ∷ (wordAt (x .track) 1 0, row1 .0)
     ∷ (wordAt (x .track) 1 1, row1 .1)
     ∷ (wordAt (x .track) 1 2, row1 .2)
+    ∷ (wordAt (x .track) 2 0, shared .0)
+    ∷ (wordAt (x .track) 2 1, shared .1)
+    ∷ (wordAt (x .track) 2 2, shared .2)
     ∷ []
 
 -- The flushes: which sets they empty, and which of these are noted again.
@@ -466,26 +536,27 @@ flushes : List ℕ → List (ℕ × ℕ)
 unfolding next
 flushes small =
     -- every word is odd, and context 0 or 1 is current
-    let in0 = given 0x80 0 0 small (replicate 2048 7) in
-    let in1 = given 0x80 1 0 small (replicate 2048 7) in
+    let in0 = given 0x80 0 0 small (replicate 3072 7) in
+    let in1 = given 0x80 1 0 small (replicate 3072 7) in
     let all = next All 0 0 0 in0 in
     let addr = next Addr 0x1000 0 0 in0 in
     let ctx = next Ctx 1 0 0 in0 in
     let addrctx = next AddrCtx 0x1000 1 0 in0 in
     let lastPage = next AddrCtx 0x3FF000 0 0 in0 in
-    -- the sets that a flush names are emptied, and those of the current context are noted again at once
-    tracked all (0x602, 0x202, 0) (0, 0, 0)
-    ++ tracked (next All 0 0 0 in1) (0, 0, 0) (0x602, 0x202, 0)
-    ++ tracked addr (7, 0x202, 7) (7, 0, 7)
-    ++ tracked (next Addr 0x1000 0 0 in1) (7, 0, 7) (7, 0x202, 7)
-    ++ tracked (next Addr 0x2000 0 0 in0) (7, 7, 0) (7, 7, 0)
-    ++ tracked (next Ctx 0 0 0 in0) (0x602, 0x202, 0) (7, 7, 7)
-    ++ tracked ctx (7, 7, 7) (0, 0, 0)
-    ++ tracked (next AddrCtx 0x1000 0 0 in0) (7, 0x202, 7) (7, 7, 7)
-    ++ tracked addrctx (7, 7, 7) (7, 0, 7)
+    -- the sets that a flush names are emptied, and those of the current context are noted again at once; `ctx` spares the global row,
+    -- `addr` and `addrctx` empty the set of their page there
+    tracked all (0x602, 0x202, 0) (0, 0, 0) (0, 0, 0)
+    ++ tracked (next All 0 0 0 in1) (0, 0, 0) (0x602, 0x202, 0) (0, 0, 0)
+    ++ tracked addr (7, 0x202, 7) (7, 0, 7) (7, 0, 7)
+    ++ tracked (next Addr 0x1000 0 0 in1) (7, 0, 7) (7, 0x202, 7) (7, 0, 7)
+    ++ tracked (next Addr 0x2000 0 0 in0) (7, 7, 0) (7, 7, 0) (7, 7, 0)
+    ++ tracked (next Ctx 0 0 0 in0) (0x602, 0x202, 0) (7, 7, 7) (7, 7, 7)
+    ++ tracked ctx (7, 7, 7) (0, 0, 0) (7, 7, 7)
+    ++ tracked (next AddrCtx 0x1000 0 0 in0) (7, 0x202, 7) (7, 7, 7) (7, 0, 7)
+    ++ tracked addrctx (7, 7, 7) (7, 0, 7) (7, 0, 7)
     -- the low 12 bits of a flush address don't matter
-    ++ tracked (next Addr 0x1FFF 0 0 in0) (7, 0x202, 7) (7, 0, 7)
-    ++ tracked (next AddrCtx 0x1FFF 1 0 in0) (7, 7, 7) (7, 0, 7)
+    ++ tracked (next Addr 0x1FFF 0 0 in0) (7, 0x202, 7) (7, 0, 7) (7, 0, 7)
+    ++ tracked (next AddrCtx 0x1FFF 1 0 in0) (7, 7, 7) (7, 0, 7) (7, 0, 7)
     -- a flush changes no register and no memory
     ++ keeping in0 all 0
     ++ keeping in0 addr 0
@@ -494,10 +565,13 @@ flushes small =
     -- the ends of the rows
     ++ (wordAt (ctx .track) 0 0x3FF, 7)
     ∷ (wordAt (ctx .track) 1 0x3FF, 0)
+    ∷ (wordAt (ctx .track) 2 0x3FF, 7)
     ∷ (wordAt (lastPage .track) 0 0x3FE, 7)
     ∷ (wordAt (lastPage .track) 0 0x3FF, 0)
     ∷ (wordAt (lastPage .track) 1 0, 7)
     ∷ (wordAt (lastPage .track) 1 0x3FF, 7)
+    ∷ (wordAt (lastPage .track) 2 0x3FE, 7)
+    ∷ (wordAt (lastPage .track) 2 0x3FF, 0)
     ∷ []
 
 -- the word in memory at `at`
@@ -550,9 +624,9 @@ sizes small =
 starting : List ℕ → List (ℕ × ℕ)
 unfolding next
 starting small =
-    let start = started small (replicate 2048 7) 0x80 in
-    let short = started (replicate 4095 5) (replicate 2048 7) 0x80 in
-    let askew = started small (replicate 2048 7) 0x40 in
+    let start = started small (replicate 3072 7) 0x80 in
+    let short = started (replicate 4095 5) (replicate 3072 7) 0x80 in
+    let askew = started small (replicate 3072 7) 0x40 in
     -- context 0, kernel mode, memory as found
     (answered start, 0)
     ∷ (returned start, packed 0x80 0 0)
@@ -569,15 +643,17 @@ starting small =
     ∷ (wordAt (start .track) 0 0x3FF, 0)
     ∷ (wordAt (start .track) 1 0, 0)
     ∷ (wordAt (start .track) 1 0x3FF, 0)
+    ∷ (wordAt (start .track) 2 0, 0)
+    ∷ (wordAt (start .track) 2 0x3FF, 0)
     -- refused: zero registers, memory and track as found
     ∷ (answered short, refusalCode 13)
     ∷ (returned short, packed 0 0 0)
     ∷ (bit (same (short .memory) (replicate 4095 5)), 1)
-    ∷ (bit (same (short .track) (replicate 2048 7)), 1)
+    ∷ (bit (same (short .track) (replicate 3072 7)), 1)
     ∷ (answered askew, refusalCode 10)
     ∷ (returned askew, packed 0 0 0)
     ∷ (bit (same (askew .memory) small), 1)
-    ∷ (bit (same (askew .track) (replicate 2048 7)), 1)
+    ∷ (bit (same (askew .track) (replicate 3072 7)), 1)
     ∷ []
 
 -- `asid`, `root` and `mode`, and the noting after them.
@@ -591,14 +667,14 @@ registers small =
     let kernel = next Mode 0 0 0 user in
     let empty = given 0x80 1 0 small emptyTrack in
     -- `asid` notes the row of the new context
-    tracked other (0x602, 0x202, 0) (0x602, 0x202, 0)
+    tracked other (0x602, 0x202, 0) (0x602, 0x202, 0) (0, 0, 0)
     -- `root` notes with the new root: page 0 gains a different entry, page 1 the same, page 2 its first
-    ++ tracked moved (0x602, 0x202, 0) (1, 0x202, 0x6602)
+    ++ tracked moved (0x602, 0x202, 0) (1, 0x202, 0x6602) (0, 0, 0)
     -- noting follows `mode`, a read, a write and a fault
-    ++ tracked (next Mode 1 0 0 empty) (0, 0, 0) (0x602, 0x202, 0)
-    ++ tracked (next Read 0x10 4 0 empty) (0, 0, 0) (0x602, 0x202, 0)
-    ++ tracked (next Write 0x10 4 0 empty) (0, 0, 0) (0x602, 0x202, 0)
-    ++ tracked (next Read 0x100000 4 0 empty) (0, 0, 0) (0x602, 0x202, 0)
+    ++ tracked (next Mode 1 0 0 empty) (0, 0, 0) (0x602, 0x202, 0) (0, 0, 0)
+    ++ tracked (next Read 0x10 4 0 empty) (0, 0, 0) (0x602, 0x202, 0) (0, 0, 0)
+    ++ tracked (next Write 0x10 4 0 empty) (0, 0, 0) (0x602, 0x202, 0) (0, 0, 0)
+    ++ tracked (next Read 0x100000 4 0 empty) (0, 0, 0) (0x602, 0x202, 0) (0, 0, 0)
     -- each answers 0 and sets its own register; `mode` does in both modes
     ++ (answered other, 0)
     ∷ (answered moved, 0)
@@ -621,14 +697,14 @@ descriptors : List ℕ → List (ℕ × ℕ)
 unfolding next
 descriptors small =
     -- the level-two words of pages 1 and 2 are at 0x404 and 0x408, in page 0
-    let start = started small (replicate 1024 0) 0x80 in
-    let changed = next Write 0x404 4 0x32 start in
-    let back = next Write 0x404 4 0x12 changed in
+    let start = started small (replicate 2048 0) 0x80 in
+    let changed = next Write 0x404 4 0x832 start in
+    let back = next Write 0x404 4 0x812 changed in
     let flushed = next Addr 0x1000 0 0 back in
-    let ignored = next Write 0x404 4 0x812 start in
+    let ignored = next Write 0x404 4 0xDDF start in
     let unmapped = next Write 0x404 4 0 start in
-    let elsewhere = next Write 0x404 4 0x1012 unmapped in
-    let mapped = next Write 0x408 4 0x12 start in
+    let elsewhere = next Write 0x404 4 0x1812 unmapped in
+    let mapped = next Write 0x408 4 0x812 start in
     -- AP alone changed: the word is 1, the page stale
     (wordAt (changed .track) 0 1, 1)
     ∷ (answered (next Read 0x1010 4 0 changed), refusalCode 16)
@@ -638,7 +714,7 @@ descriptors small =
     -- until a flush
     ∷ (wordAt (flushed .track) 0 1, 0x202)
     ∷ (answered (next Read 0x1010 4 0 flushed), 0x44332211)
-    -- an ignored bit changed: the same entry
+    -- every ignored bit changed, and kind 2 to kind 3: the same entry
     ∷ (wordAt (ignored .track) 0 1, 0x202)
     ∷ (answered (next Read 0x1010 4 0 ignored), 0x44332211)
     -- no mapping any more: the word stays, the page is stale, before fault 7; an unaligned access is fault 1
@@ -652,65 +728,96 @@ descriptors small =
     ∷ (answered (next Read 0x2010 4 0 mapped), 0x44332211)
     ∷ []
 
--- words that are neither 0, nor 1, nor an entry's: bit 1 clear, or a bit set that an entry has clear, without and with bit 8
+-- words of a context's row that are neither 0, nor 1, nor an entry's of that row: bit 1 clear, or a bit set that such an entry has clear,
+-- bit 7 among them, without and with bit 8
 abbrev oddWords : List ℕ
 oddWords =
     0x1000 ∷ 0x1003 ∷ 0x1006 ∷ 0x100A ∷ 0x1012 ∷ 0x1022 ∷ 0x1042 ∷ 0x1082
     ∷ 0x1100 ∷ 0x1103 ∷ 0x1106 ∷ 0x110A ∷ 0x1112 ∷ 0x1122 ∷ 0x1142 ∷ 0x1182
     ∷ 3 ∷ 4 ∷ 7 ∷ 0xFFFFFFFF ∷ []
 
--- an odd word stays when an entry is added, and its page is stale whatever the tables say
-abbrev staysOdd : List ℕ → List (ℕ × ℕ)
-staysOdd [] = []
-staysOdd (w ∷ ws) =
-    (addEntry w 0x1002, w)
-    ∷ (bit (staleWord w (Mapped (record { frame = 1; ap = 0; section = 0 }))), 1)
-    ∷ (bit (staleWord w (Failed SecondUnmapped)), 1)
-    ∷ staysOdd ws
+-- the same of the global row, whose entries have bit 7 set
+abbrev oddGlobalWords : List ℕ
+oddGlobalWords =
+    0x1080 ∷ 0x1083 ∷ 0x1086 ∷ 0x108A ∷ 0x1092 ∷ 0x10A2 ∷ 0x10C2 ∷ 0x1002
+    ∷ 0x1180 ∷ 0x1183 ∷ 0x1186 ∷ 0x118A ∷ 0x1192 ∷ 0x11A2 ∷ 0x11C2 ∷ 0x1102
+    ∷ 3 ∷ 4 ∷ 7 ∷ 0xFFFFFFFF ∷ []
+
+-- the entry with frame 1 and AP 0 that a page gives, or a section, a context's own (0) or global (1)
+abbrev entry1 : ℕ → ℕ → Entry
+entry1 section global = record { frame = 1; ap = 0; section = section; global = global }
+
+-- an odd word of a row of kind g, 0 a context's or 1 the global row, stays when an entry is added, and its page is stale whatever the
+-- tables say, even an entry with that word
+abbrev staysOdd : ℕ → List ℕ → List (ℕ × ℕ)
+staysOdd g [] = []
+staysOdd g (w ∷ ws) =
+    (addEntry g w (0x1002 + 128 * g), w)
+    ∷ (bit (staleWord g w (Mapped (entry1 0 0))), 1)
+    ∷ (bit (staleWord g w (Mapped (entry1 0 1))), 1)
+    ∷ (bit (staleWord g w (Mapped (entry1 1 0))), 1)
+    ∷ (bit (staleWord g w (Mapped (entry1 1 1))), 1)
+    ∷ (bit (staleWord g w (Failed SecondUnmapped)), 1)
+    ∷ staysOdd g ws
+
+-- an entry added, and the stale test, in a row of kind g
+abbrev inRowOf : ℕ → List (ℕ × ℕ)
+inRowOf g =
+    -- the words of that row's entries with frame 1 and AP 0, of a page and of a section
+    let word = 0x1002 + 128 * g in
+    let sectionWord = 0x1102 + 128 * g in
+    let present = Mapped (entry1 0 g) in
+    let ofSection = Mapped (entry1 1 g) in
+    -- an entry added to an empty set, to itself, to one of another frame, of another AP, of a section, to two
+    (addEntry g 0 word, word)
+    ∷ (addEntry g word word, word)
+    ∷ (addEntry g (word + 0x1000) word, 1)
+    ∷ (addEntry g (word + 0x200) word, 1)
+    ∷ (addEntry g sectionWord word, 1)
+    ∷ (addEntry g word sectionWord, 1)
+    ∷ (addEntry g sectionWord sectionWord, sectionWord)
+    ∷ (addEntry g (2 + 128 * g) word, 1)
+    ∷ (addEntry g (0xFFFFFE02 + 128 * g) word, 1)
+    ∷ (addEntry g 1 word, 1)
+    -- stale: a set with an entry different from the present outcome
+    ∷ (bit (staleWord g 0 present), 0)
+    ∷ (bit (staleWord g word present), 0)
+    ∷ (bit (staleWord g (word + 0x1000) present), 1)
+    ∷ (bit (staleWord g (word + 0x200) present), 1)
+    ∷ (bit (staleWord g sectionWord present), 1)
+    ∷ (bit (staleWord g word ofSection), 1)
+    ∷ (bit (staleWord g sectionWord ofSection), 0)
+    ∷ (bit (staleWord g 1 present), 1)
+    ∷ (bit (staleWord g 0 (Failed SecondUnmapped)), 0)
+    ∷ (bit (staleWord g word (Failed SecondUnmapped)), 1)
+    ∷ (bit (staleWord g 1 (Failed SecondUnmapped)), 1)
+    ∷ (bit (staleWord g word (Failed FirstOutside)), 1)
+    -- and one of the other row's entries as the present outcome
+    ∷ (bit (staleWord g 0 (Mapped (entry1 0 (1 - g)))), 0)
+    ∷ (bit (staleWord g word (Mapped (entry1 0 (1 - g)))), 1)
+    ∷ []
 
 -- The words of the track.
 words : List ℕ → List (ℕ × ℕ)
 unfolding next
 words small =
-    let present = Mapped (record { frame = 1; ap = 0; section = 0 }) in
-    let ofSection = Mapped (record { frame = 1; ap = 0; section = 1 }) in
-    let odd = given 0x80 0 0 small (7 ∷ 0x206 ∷ 0x1006 ∷ 3 ∷ replicate 1020 0) in
+    let odd = given 0x80 0 0 small (7 ∷ 0x206 ∷ 0x1006 ∷ 3 ∷ replicate 2044 0) in
     let noted = next Mode 0 0 0 odd in
     let cleared = next Addr 0 0 0 noted in
-    -- the word of one entry: frame in bits 31..12, AP in bits 11..9, section in bit 8, bit 1 set
-    (entryWord (record { frame = 0; ap = 0; section = 0 }), 0x00000002)
-    ∷ (entryWord (record { frame = 1; ap = 0; section = 0 }), 0x00001002)
-    ∷ (entryWord (record { frame = 0x80000; ap = 0; section = 0 }), 0x80000002)
-    ∷ (entryWord (record { frame = 0; ap = 1; section = 0 }), 0x00000202)
-    ∷ (entryWord (record { frame = 0; ap = 4; section = 0 }), 0x00000802)
-    ∷ (entryWord (record { frame = 0; ap = 0; section = 1 }), 0x00000102)
-    -- a section and a page with the same frame and AP
-    ∷ (entryWord (record { frame = 0x123; ap = 3; section = 1 }), 0x00123702)
-    ∷ (entryWord (record { frame = 0x123; ap = 3; section = 0 }), 0x00123602)
-    -- an entry added to an empty set, to itself, to one of another frame, of another AP, of a section, to two
-    ∷ (addEntry 0 0x1002, 0x1002)
-    ∷ (addEntry 0x1002 0x1002, 0x1002)
-    ∷ (addEntry 0x2002 0x1002, 1)
-    ∷ (addEntry 0x1202 0x1002, 1)
-    ∷ (addEntry 0x1102 0x1002, 1)
-    ∷ (addEntry 0x1002 0x1102, 1)
-    ∷ (addEntry 0x1102 0x1102, 0x1102)
-    ∷ (addEntry 0x0002 0x1002, 1)
-    ∷ (addEntry 0xFFFFFE02 0x1002, 1)
-    ∷ (addEntry 1 0x1002, 1)
-    -- stale: a set with an entry different from the present outcome
-    ∷ (bit (staleWord 0 present), 0)
-    ∷ (bit (staleWord 0x1002 present), 0)
-    ∷ (bit (staleWord 0x2002 present), 1)
-    ∷ (bit (staleWord 0x1202 present), 1)
-    ∷ (bit (staleWord 0x1102 present), 1)
-    ∷ (bit (staleWord 0x1002 ofSection), 1)
-    ∷ (bit (staleWord 0x1102 ofSection), 0)
-    ∷ (bit (staleWord 1 present), 1)
-    ∷ (bit (staleWord 0 (Failed SecondUnmapped)), 0)
-    ∷ (bit (staleWord 0x1002 (Failed SecondUnmapped)), 1)
-    ∷ (bit (staleWord 1 (Failed SecondUnmapped)), 1)
-    ∷ (bit (staleWord 0x1002 (Failed FirstOutside)), 1)
+    -- the word of one entry: frame in bits 31..12, AP in bits 11..9, section in bit 8, global in bit 7, bit 1 set
+    (entryWord (record { frame = 0; ap = 0; section = 0; global = 0 }), 0x00000002)
+    ∷ (entryWord (record { frame = 1; ap = 0; section = 0; global = 0 }), 0x00001002)
+    ∷ (entryWord (record { frame = 0x80000; ap = 0; section = 0; global = 0 }), 0x80000002)
+    ∷ (entryWord (record { frame = 0; ap = 1; section = 0; global = 0 }), 0x00000202)
+    ∷ (entryWord (record { frame = 0; ap = 4; section = 0; global = 0 }), 0x00000802)
+    ∷ (entryWord (record { frame = 0; ap = 0; section = 1; global = 0 }), 0x00000102)
+    ∷ (entryWord (record { frame = 0; ap = 0; section = 0; global = 1 }), 0x00000082)
+    ∷ (entryWord (record { frame = 0xFFFFF; ap = 7; section = 1; global = 1 }), 0xFFFFFF82)
+    -- a section and a page with the same frame and AP, own and global
+    ∷ (entryWord (record { frame = 0x123; ap = 3; section = 1; global = 0 }), 0x00123702)
+    ∷ (entryWord (record { frame = 0x123; ap = 3; section = 0; global = 0 }), 0x00123602)
+    ∷ (entryWord (record { frame = 0x123; ap = 3; section = 1; global = 1 }), 0x00123782)
+    ∷ (entryWord (record { frame = 0x123; ap = 3; section = 0; global = 1 }), 0x00123682)
     -- by steps: odd words stay under noting, and make their pages stale
     ∷ (wordAt (noted .track) 0 0, 7)
     ∷ (wordAt (noted .track) 0 1, 0x206)
@@ -727,18 +834,23 @@ words small =
     ∷ (wordAt (next Addr 0x2000 0 0 noted .track) 0 2, 0)
     ∷ (wordAt (next Ctx 0 0 0 noted .track) 0 3, 0xE02)
     -- a sole entry of another AP makes its page stale, the tables' own does not
-    ∷ (answered (next Read 0x1010 4 0 (given 0x80 0 0 small (0 ∷ 0x602 ∷ replicate 1022 0))), refusalCode 16)
-    ∷ (answered (next Read 0x1010 4 0 (given 0x80 0 0 small (0 ∷ 0x202 ∷ replicate 1022 0))), 0x44332211)
-    ∷ staysOdd oddWords
+    ∷ (answered (next Read 0x1010 4 0 (given 0x80 0 0 small (0 ∷ 0x602 ∷ replicate 2046 0))), refusalCode 16)
+    ∷ (answered (next Read 0x1010 4 0 (given 0x80 0 0 small (0 ∷ 0x202 ∷ replicate 2046 0))), 0x44332211)
+    -- by words: in a context's row, and in the global row
+    ∷ inRowOf 0
+    ++ inRowOf 1
+    ++ staysOdd 0 oddWords
+    ++ staysOdd 1 oddGlobalWords
 
 pub widerCases : List (ℕ × ℕ)
 unfolding listing permissions sections tables pages faults refusals conditions order staleOrder flushes sizes starting
-    registers descriptors words splitAndJoined
+    registers descriptors words splitAndJoined globalEntries
 widerCases =
     let small = smallImage in
     listing ++ permissions ++ sections ++ tables ++ pages
     ++ faults small ++ refusals small ++ conditions ++ order ++ staleOrder small
     ++ flushes small ++ sizes small ++ starting small ++ registers small ++ descriptors small ++ words small ++ splitAndJoined
+    ++ globalEntries
 
 pub wider-cases : allMatch widerCases ≡ true
 unfolding widerCases

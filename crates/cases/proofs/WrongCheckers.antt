@@ -9,7 +9,7 @@ use native.Mathlib.Omega.{arith}
 use lib.ListN.{length, getD, replicate, length-replicate}
 use Rattle.model.specs.Limits.{pageSize, rowSize}
 use Rattle.model.specs.Numbers.{Result, ok, fault, refused, shown}
-use Rattle.model.specs.reference.Rules.{State, fresh, outcome, carriedOut, plainStep, walk, descriptor, tableWord, section, bits, value, inMemory, effect, access, translated, touched, aligned, allows, rightOf, physical, among, trackWord, stale, kept, differs, conditions, Given, refuses16, setRegisters, chipOutcome, orWalk, chipStep, moves, move, isFree, heldFor, putIn, flushPlace, flushes}
+use Rattle.model.specs.reference.Rules.{Translation, State, fresh, outcome, carriedOut, plainStep, walk, descriptor, tableWord, section, bits, value, inMemory, effect, access, translated, touched, aligned, allows, rightOf, physical, among, trackWord, stale, kept, differs, conditions, Given, refuses16, setRegisters, chipOutcome, orWalk, chipStep, moves, move, isFree, heldFor, putIn, flushPlace, flushes, anyClash, matches, covers, heldScope, scopeOf, globalBy, Scope, own, global}
 use Rattle.model.specs.reference.Runs.{Checker, next, checkerRun, isRefused, seen, told, plainRun, chipStart, chipNext, chipRun, chipSeen}
 use Rattle.model.specs.step.Checks.{checks}
 use Rattle.model.specs.step.Machine.{After, turnedBack, started, stepped}
@@ -152,7 +152,7 @@ unfolding thirdAnswer headAnswer plainRun plainStep carriedOut effect setRegiste
 plain-faults = refl
 
 chip-reads : thirdAnswer (map chipSeen (chipRun (chipStart 1 (fresh image 0) []) readAfter afterFirst)) ≡ some (ok 7)
-unfolding thirdAnswer headAnswer chipRun chipStart chipNext chipStep chipSeen chipOutcome orWalk effect setRegisters access translated touched aligned allows rightOf physical fresh moves move isFree heldFor putIn outcome walk descriptor tableWord section bits value inMemory flushPlace flushes readPage2 toRoot image afterFirst
+unfolding thirdAnswer headAnswer chipRun chipStart chipNext chipStep chipSeen chipOutcome orWalk effect setRegisters access translated touched aligned allows rightOf physical fresh moves move isFree heldFor matches anyClash putIn outcome walk descriptor tableWord section globalBy bits value inMemory heldScope scopeOf covers flushPlace flushes readPage2 toRoot image afterFirst
 chip-reads = refl
 
 faults-reads : _≡_ {A = Option Result} (some (fault 0x5)) (some (ok 7)) → ⊥
@@ -228,12 +228,22 @@ zero-at zero i = refl
 zero-at (suc n) zero = refl
 zero-at (suc n) (suc i) = zero-at n i
 
+-- so no page is stale by it, in any context
+emptied-word : (t : List ℕ) (u : Scope) (p : ℕ) → trackWord (emptied t) u p ≡ 0
+unfolding emptied trackWord
+emptied-word t u p = zero-at (length t) _
+
+emptied-free : (t : List ℕ) (c p : ℕ) (y : Translation) → stale (emptied t) c p y ≡ false
+unfolding stale kept differs
+emptied-free t c p y = rw (emptied-word t (own c) p, emptied-word t global p)
+
 emptied-never : NeverStale forgetful
-unfolding forgetful emptied refuses16 stale trackWord kept differs
+unfolding forgetful refuses16
 emptied-never o g i t q =
+    let y = walk i (g .root) (o .a) in
     true≢false
-    (sym (and-both (among (o .kind) (Read ∷ Write ∷ []) && aligned (o .a) (o .b)) (stale (emptied t) (g .context) (o .a / pageSize) (walk i (g .root) (o .a))) (by-track .says16 o g i (emptied t) q) .1)
-    ∙ ap (λ w. differs (kept w) (walk i (g .root) (o .a))) (zero-at (length t) (rowSize * g .context + o .a / pageSize)))
+    (sym (and-both (among (o .kind) (Read ∷ Write ∷ []) && aligned (o .a) (o .b)) (stale (emptied t) (g .context) (o .a / pageSize) y) (by-track .says16 o g i (emptied t) q) .1)
+    ∙ emptied-free t (g .context) (o .a / pageSize) y)
 
 -- it refuses by other numbers as the rules do: their conditions ask no more of the track than its length
 other-last : (r : ℕ) (b c : Bool) → (r ≡ 16 → ⊥) → (xs : List (ℕ × Bool)) → Given r (xs ++ (16, b) ∷ []) → Given r (xs ++ (16, c) ∷ [])

@@ -5,6 +5,7 @@ ghost use Rattle.model.specs.Numbers.{refusalNumber};
 ghost use Rattle.model.specs.step.Checks.{sizeFits, addressFits, valueFits, newRootFits, contextFits, modeFits, mayAsk, checks, startChecks, firstFailing, Says};
 use limits::fits_size;
 use limits::is_size;
+use limits::last_row;
 use limits::lengths_fit;
 use limits::registers_fit;
 use limits::root_fits;
@@ -98,12 +99,13 @@ pub fn check(o: Operation, r: Registers, m: usize, t: usize) -> Check
 {
     let kind = o.kind;
     let lengths = lengths_fit(m, t);
-    let registers = registers_fit(r, t / 1024); // rowSize
+    let contexts = last_row(t);
+    let registers = registers_fit(r, contexts);
     let size = size_fits(kind, o.b);
     let address = address_fits(kind, o.a);
     let value = value_fits(kind, o.b, o.c);
     let root = new_root_fits(kind, o.a);
-    let context = context_fits(kind, o.a, o.b, t / 1024); // rowSize
+    let context = context_fits(kind, o.a, o.b, contexts);
     let mode = mode_fits(kind, o.a);
     let asked = may_ask(kind, r.mode);
     if !lengths {

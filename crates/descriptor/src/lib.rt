@@ -14,6 +14,7 @@ pub fn section_entry(w: u32, page: usize) -> Entry
         frame: w / 1048576 % 4096 * 256 + (page % 256) as u32,
         ap: w / 32768 % 2 * 4 + w / 1024 % 4,
         section: 1,
+        global: 1 - w / 131072 % 2,
     }
 }
 
@@ -25,6 +26,7 @@ pub fn large_entry(w: u32, page: usize) -> Entry
         frame: w / 65536 % 65536 * 16 + (page % 16) as u32,
         ap: w / 512 % 2 * 4 + w / 16 % 4,
         section: 0,
+        global: 1 - w / 2048 % 2,
     }
 }
 
@@ -36,6 +38,7 @@ pub fn small_entry(w: u32) -> Entry
         frame: w / 4096 % 1048576,
         ap: w / 512 % 2 * 4 + w / 16 % 4,
         section: 0,
+        global: 1 - w / 2048 % 2,
     }
 }
 

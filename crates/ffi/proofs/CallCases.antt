@@ -18,7 +18,7 @@ byte at x = getD (x .memory) at 0
 
 -- a track of two contexts
 abbrev track : List ℕ
-track = replicate 2048 0
+track = replicate 3072 0
 
 -- an operation's four words and three registers, on image A
 abbrev called : ℕ → ℕ → ℕ → ℕ → List ℕ → Called
@@ -46,6 +46,9 @@ callCases =
     ∷ (register 2 user, 1)
     ∷ (called 8 0 0 0 (0 ∷ 0 ∷ 1 ∷ []) .number, 0x20000000F)
     ∷ (called 0 0 4 0 (0 ∷ 2 ∷ 0 ∷ []) .number, 0x20000000E)
+    -- two rows are one context, and one row is no track: 13
+    ∷ (startCall zeros (replicate 2048 0) 0x80 kernel .number, 0)
+    ∷ (startCall zeros (replicate 1024 0) 0x80 kernel .number, 0x20000000D)
     -- a read: the address is the second word, the size the third; its value, and fault 7
     ∷ (called 0 0x1000 4 0 kernel .number, 0x12345678)
     ∷ (called 0 0x1002 2 0 kernel .number, 0x1234)
@@ -64,9 +67,10 @@ pub call-cases : allMatch callCases ≡ true
 unfolding callCases next kindFrom operationFrom registersFrom registersInto areWords stepCall startCall
 call-cases = refl
 
--- image A with a table outside memory for the second MiB, and a section at 0x30000000, AP 3, nG set, for the third
+-- image A with a table outside memory for the second MiB, a section at 0x30000000, AP 3, nG set, for the third, and the same with nG clear
+-- for the fourth
 abbrev outside : List ℕ
-outside = put 0x4 0x8001 (put 0x8 0x30020C02 imageA)
+outside = put 0x4 0x8001 (put 0x8 0x30020C02 (put 0xC 0x30000C02 imageA))
 
 pub walkCases : List (ℕ × ℕ)
 walkCases =
@@ -76,6 +80,9 @@ walkCases =
     ∷ (walkAnswer imageA 0 0x1FFF, 0x3602)
     -- the word of a section's page has bit 8 set
     ∷ (walkAnswer outside 0 0x2AB000, 0x300AB702)
+    -- and bit 7 where the page is global
+    ∷ (walkAnswer outside 0 0x3AB000, 0x300AB782)
+    ∷ (walkAnswer (put 0x404 0x3032 imageA) 0 0x1000, 0x3682)
     -- the faults of the walk: 0xC, 5, 0xE and 7
     ∷ (walkAnswer imageA 0x8000 0, 0x10000000C)
     ∷ (walkAnswer imageA 0 0x100000, 0x100000005)

@@ -1,6 +1,7 @@
 // What lengths, registers, sizes and values can be.
 ghost use mathlib.Core.Path.{_≡_};
 ghost use Rattle.model.specs.step.Checks.{memoryFits, trackFits, lengthsFit, rootFits, registersFit, isSize, fitsSize};
+ghost use Rattle.model.specs.step.Track.{lastRow};
 use model::Registers;
 
 // Whether n bytes can be a memory.
@@ -30,12 +31,23 @@ pub fn track_fits(n: usize) -> bool
 {
     let rest = n % 1024; // rowSize
     if rest == 0 {
-        if 1024 <= n { // rowSize
-            return n <= 262144; // contextsMost * rowSize
+        if 2048 <= n { // 2 * rowSize
+            return n <= 263168; // (contextsMost + 1) * rowSize
         }
         return false;
     }
     false
+}
+
+// The number of the last row of n words: the global row of a track, and how many contexts it has.
+pub fn last_row(n: usize) -> usize
+    ensures { λ r. ⌜ r ≡ lastRow n ⌝ }
+{
+    let rows = n / 1024; // rowSize
+    if rows == 0 {
+        return 0;
+    }
+    rows - 1
 }
 
 // Whether m bytes can be a memory, and t words a track.

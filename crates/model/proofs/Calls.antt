@@ -1,5 +1,5 @@
 -- The first demand, and what the second asks of a single call: proved of the step.
-use Prim.Native.Nat.{ℕ, suc, _+_, _*_, _/_, _%_, _≤_, _<_}
+use Prim.Native.Nat.{ℕ, suc, _+_, _*_, _-_, _/_, _%_, _≤_, _<_}
 use mathlib.Core.Path.{_≡_, refl, sym, ap, ap₂, _∙_}
 use mathlib.Core.Logic.{_↔_, _⊎_, inl, inr}
 use mathlib.Core.Bool.{Bool, true, false, cond, not, _&&_, true≢false}
@@ -11,9 +11,9 @@ use lib.ListN.{length}
 use borrow.Author.Tests.{ltb-true, leb-true}
 use Rattle.model.specs.Limits.{rowSize, contextsMost}
 use Rattle.model.specs.Numbers.{Result, ok, fault, refused, shown, refusalNumber}
-use Rattle.model.specs.reference.Rules.{Translation, found, failed, inMemory, physical, rightOf, allows, permissionFault, State, fresh, aligned, touched, translated, access, setRegisters, effect, outcome, carriedOut, flushes, trackWord, notedIn, wordAfter, contexts, conditions, startConditions, Given, refuses16}
+use Rattle.model.specs.reference.Rules.{Translation, found, failed, inMemory, physical, rightOf, allows, permissionFault, State, fresh, aligned, touched, translated, access, setRegisters, effect, outcome, carriedOut, Scope, own, global, flushes, trackWord, notedIn, wordAfter, contexts, hasRow, conditions, startConditions, Given, refuses16}
 use Rattle.model.specs.reference.Runs.{isRefused}
-use Rattle.model.specs.step.Track.{noteTrack, flushAll}
+use Rattle.model.specs.step.Track.{lastRow, noteTrack, flushAll}
 use Rattle.model.specs.step.Checks.{checks, startChecks, firstFailing, contextFits, registersFit, sizeFits, rootFits, lengthsFit, memoryFits, trackFits}
 use Rattle.model.specs.step.Machine.{After, sizeOf, accessAt, readFrom, writeTo, readStep, writeStep, afterChecks, startedBy, operate, stepped, started, startRegisters, zeroRegisters, turnedBack}
 use Rattle.model.specs.Demands.{Call, conditionsOf, after, before, visible, Leaves, Total, Faithful}
@@ -280,7 +280,7 @@ context-in-range r n p = go (rootFits (r .root)) (ltb (r .context) n) refl p
     go false y e q = absurd (true≢false (sym q))
 
 pub passed-call : (x : Call) → firstFailing (checksOf x) ≡ Pass → Passed x
-unfolding Hold checks contexts stepped
+unfolding Hold checks contexts lastRow stepped
 passed-call x p =
     let all = passed (checksOf x) p in
     let given : x .registers .context < contexts (x .track) = context-in-range (x .registers) (contexts (x .track)) (all .1 .0) in
@@ -302,9 +302,9 @@ passes xs ys p = go (firstFailing xs) (sym (first-failing xs ys) ∙ p)
 pub call-passes : (x : Call) → ((r : ℕ) → Given r (conditionsOf x) → ⊥) → Passed x
 call-passes x h = passed-call x (passes (checksOf x) (staleCondition x ∷ []) (ap firstHolding (checks-same x) ∙ none-holds (conditionsOf x) h))
 
-pub words : (x : Call) → ((r : ℕ) → Given r (conditionsOf x) → ⊥) → (c p : ℕ) → c < contexts (x .track) → p < rowSize →
-    trackWord (after x .track) c p ≡ wordAfter (x .operation) (carriedOut (x .operation) (before x) .1) c p (trackWord (x .track) c p)
-words x h c p d q = go (ended x)
+pub words : (x : Call) → ((r : ℕ) → Given r (conditionsOf x) → ⊥) → (u : Scope) (p : ℕ) → hasRow (x .track) u ≡ true → p < rowSize →
+    trackWord (after x .track) u p ≡ wordAfter (x .operation) (carriedOut (x .operation) (before x) .1) u p (trackWord (x .track) u p)
+words x h u p d q = go (ended x)
   where
     o : Operation
     o = x .operation
@@ -313,13 +313,13 @@ words x h c p d q = go (ended x)
     y = after x
 
     go : Ended (after x) (x .registers) (x .memory) (x .track) (flushedBy x) →
-        trackWord (after x .track) c p ≡ wordAfter (x .operation) (carriedOut (x .operation) (before x) .1) c p (trackWord (x .track) c p)
+        trackWord (after x .track) u p ≡ wordAfter (x .operation) (carriedOut (x .operation) (before x) .1) u p (trackWord (x .track) u p)
     go (back n e) = absurd (h (refusalNumber n) (exactly x (refusalNumber n) .0 (ap (λ (z : After). shown (z .answer)) e)))
     go (done a e) =
         let ok = call-passes x h in
-        ap (λ l. trackWord l c p) e
-        ∙ word-after (o .kind) o (y .memory) (y .registers) (x .track) refl (ok .named) (ok .left) c p d q
-        ∙ ap (λ (z : Result × State). wordAfter o (z .1) c p (trackWord (x .track) c p)) (plain x h)
+        ap (λ l. trackWord l u p) e
+        ∙ word-after (o .kind) o (y .memory) (y .registers) (x .track) refl (ok .named) (ok .left) u p d q
+        ∙ ap (λ (z : Result × State). wordAfter o (z .1) u p (trackWord (x .track) u p)) (plain x h)
 
 pub track-length : (x : Call) → length (after x .track) ≡ length (x .track)
 track-length x = go (ended x)
@@ -385,10 +385,10 @@ pub data Begun (y : After) (m t : List ℕ) (root : ℕ) : Type 0 where
 
 pub has-context : (m t : List ℕ) → lengthsFit (length m) (length t) ≡ true → 0 < contexts t
 unfolding lengthsFit trackFits contexts
-has-context m t p = go (memoryFits (length m)) (eqb (length t % rowSize) 0) (leb rowSize (length t)) refl p
+has-context m t p = go (memoryFits (length m)) (eqb (length t % rowSize) 0) (leb (2 * rowSize) (length t)) refl p
   where
-    go : (x y z : Bool) → leb rowSize (length t) ≡ z → cond x (cond y (cond z (leb (length t) (contextsMost * rowSize)) false) false) false ≡ true → 0 < length t / rowSize
-    go true true true e q = let h = leb-true rowSize (length t) e in omega arith
+    go : (x y z : Bool) → leb (2 * rowSize) (length t) ≡ z → cond x (cond y (cond z (leb (length t) ((contextsMost + 1) * rowSize)) false) false) false ≡ true → 0 < length t / rowSize - 1
+    go true true true e q = let h = leb-true (2 * rowSize) (length t) e in omega arith
     go true true false e q = absurd (true≢false (sym q))
     go true false z e q = absurd (true≢false (sym q))
     go false y z e q = absurd (true≢false (sym q))
@@ -416,24 +416,29 @@ all-length : (t : List ℕ) → length (flushAll t) ≡ length t
 unfolding flushOf contextFits
 all-length t = flushed-length All everything t refl
 
-all-words : (t : List ℕ) (c p : ℕ) → c < contexts t → p < rowSize → trackWord (flushAll t) c p ≡ 0
+all-words : (t : List ℕ) → 0 < contexts t → (u : Scope) (p : ℕ) → hasRow t u ≡ true → p < rowSize → trackWord (flushAll t) u p ≡ 0
 unfolding flushOf contextFits flushes
-all-words t c p h q = flushed-word All everything t refl c p h q
+all-words t k u p h q = flushed-word All everything t k refl u p h q
 
 all-contexts : (t : List ℕ) → contexts (flushAll t) ≡ contexts t
 unfolding contexts
-all-contexts t = ap (λ n. n / rowSize) (all-length t)
+all-contexts t = ap (λ n. n / rowSize - 1) (all-length t)
 
-pub start-words : (m t : List ℕ) (root : ℕ) → ((r : ℕ) → Given r (startConditions m t root) → ⊥) → (c p : ℕ) → c < contexts t → p < rowSize →
-    trackWord (started m t root .track) c p ≡ notedIn (fresh m root) c p 0
-start-words m t root h c p d q = go (begun m t root)
+all-rows : (t : List ℕ) (u : Scope) → hasRow t u ≡ true → hasRow (flushAll t) u ≡ true
+unfolding hasRow
+all-rows t (own c) h = ap (ltb c) (all-contexts t) ∙ h
+all-rows t global h = refl
+
+pub start-words : (m t : List ℕ) (root : ℕ) → ((r : ℕ) → Given r (startConditions m t root) → ⊥) → (u : Scope) (p : ℕ) → hasRow t u ≡ true → p < rowSize →
+    trackWord (started m t root .track) u p ≡ notedIn (fresh m root) u p 0
+start-words m t root h u p d q = go (begun m t root)
   where
-    go : Begun (started m t root) m t root → trackWord (started m t root .track) c p ≡ notedIn (fresh m root) c p 0
+    go : Begun (started m t root) m t root → trackWord (started m t root .track) u p ≡ notedIn (fresh m root) u p 0
     go (back n e) = absurd (h (refusalNumber n) (start-exactly m t root (refusalNumber n) .0 (ap (λ (z : After). shown (z .answer)) e)))
     go (done a k e) =
-        ap (λ l. trackWord l c p) e
-        ∙ noted-word m (startRegisters root) (flushAll t) (rw (all-contexts t) k) c p q
-        ∙ ap (notedIn (state (startRegisters root) m) c p) (all-words t c p d q)
+        ap (λ l. trackWord l u p) e
+        ∙ noted-word m (startRegisters root) (flushAll t) (rw (all-contexts t) k) u p (all-rows t u d) q
+        ∙ ap (notedIn (state (startRegisters root) m) u p) (all-words t k u p d q)
         ∙ (unfold fresh in refl)
 
 pub start-track-length : (m t : List ℕ) (root : ℕ) → length (started m t root .track) ≡ length t

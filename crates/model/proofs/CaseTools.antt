@@ -9,7 +9,7 @@ use Rattle.model.specs.step.Memory.{storedAt, within, loadAt, writtenAt}
 use Rattle.model.specs.step.Walk.{walkPage, firstAt, firstOf, secondAt, secondOf}
 use Rattle.model.specs.step.Rights.{kernelRights, userRights, rightsOf, permitted}
 use Rattle.model.specs.step.Rows.{inRow, eachRow}
-use Rattle.model.specs.step.Track.{isEntry, addEntry, notePage, noteTrack, flushAll, flushPage, flushContext, flushPageIn, staleWord}
+use Rattle.model.specs.step.Track.{isEntry, addEntry, notePage, lastRow, noteTrack, flushAll, flushPage, flushContext, flushPageIn, staleWord, stalePage}
 use Rattle.model.specs.step.Checks.{memoryFits, trackFits, lengthsFit, rootFits, registersFit, sizeFits, addressFits, valueFits, newRootFits, contextFits, modeFits, mayAsk, checks, startChecks, firstFailing}
 use Rattle.model.specs.step.Machine.{After, permissionFaultOf, decided, accessAt, readStep, writeStep, operate, stepped, started}
 use Rattle.model.specs.Types.{Kind, Four}
@@ -35,7 +35,7 @@ imageA =
 -- an operation with its fields, on what the one before it left; to unfold it is to unfold the whole step, and start
 unfoldable pub next : Kind → ℕ → ℕ → ℕ → After → After
 unfolding within loadAt writtenAt walkPage firstAt firstOf secondAt secondOf kernelRights userRights rightsOf permitted inRow
-    eachRow isEntry addEntry notePage noteTrack flushAll flushPage flushContext flushPageIn staleWord memoryFits
+    eachRow isEntry addEntry notePage lastRow noteTrack flushAll flushPage flushContext flushPageIn staleWord stalePage memoryFits
     trackFits lengthsFit rootFits registersFit sizeFits addressFits valueFits newRootFits contextFits modeFits mayAsk
     checks startChecks firstFailing permissionFaultOf decided accessAt readStep writeStep operate stepped started
 next k a b c x = stepped (record { kind = k; a = a; b = b; c = c }) (x .registers) (x .memory) (x .track)

@@ -1,19 +1,20 @@
 -- Each check of the step fails exactly when the reference's condition of its refusal holds.
-use Prim.Native.Nat.{ℕ, suc, _+_, _*_, _/_, _%_, _≤_, _<_}
+use Prim.Native.Nat.{ℕ, suc, _+_, _*_, _-_, _/_, _%_, _≤_, _<_}
 use mathlib.Core.Path.{_≡_, refl, sym, ap, ap₂, _∙_}
 use mathlib.Core.Bool.{Bool, true, false, cond, not, _&&_, _||_}
 use mathlib.Core.List.{List, [], _∷_, _++_}
 use native.Mathlib.Omega.{arith}
 use lib.Dec.{eqb, leb, ltb}
 use lib.ListN.{length}
-use borrow.Author.Tests.{eqb-true, eqb-false, eq-eqb, ne-eqb}
+use borrow.Author.Tests.{eqb-true, eqb-false, eq-eqb, ne-eqb, leb-true, le-leb}
 use Rattle.model.specs.Limits.{addressLimit, rowSize, rootAlignment, memoryUnit, memoryMost, contextsMost, wordLimit}
 use Rattle.model.specs.Numbers.{refusalNumber}
 use Rattle.model.specs.reference.Rules.{among, contexts, refuses7, refuses8, refuses9, refuses10, refuses11, refuses12, refuses13, refuses14, refuses15, refuses16, conditions, startConditions}
+use Rattle.model.specs.step.Track.{lastRow}
 use Rattle.model.specs.step.Checks.{memoryFits, trackFits, lengthsFit, rootFits, registersFit, isSize, sizeFits, addressFits, fitsSize, valueFits, newRootFits, contextFits, modeFits, mayAsk, checks, startChecks}
 use Rattle.model.specs.Demands.{Call, conditionsOf}
 use Rattle.model.specs.Types.{Registers, Operation, Kind, Read, Write, Root, Asid, Mode, All, Addr, Ctx, AddrCtx, Refusal}
-use Rattle.model.proofs.BoolLaws.{leb-same, eqb-same, not-ltb, not-leb, or-false, three-and, three-or, not-three, not-two}
+use Rattle.model.proofs.BoolLaws.{same-test, and-both, not-ltb, not-leb, or-false, three-and, three-or, not-three, not-two}
 
 -- an operation with these parts
 abbrev op : Kind → ℕ → ℕ → ℕ → Operation
@@ -118,27 +119,33 @@ mode-same Ctx a b c = refl
 mode-same AddrCtx a b c = refl
 
 -- 13
-track-test : (n : ℕ) → trackFits n ≡ (eqb n (rowSize * (n / rowSize)) && leb 1 (n / rowSize) && leb (n / rowSize) contextsMost)
-unfolding trackFits
+track-test : (n : ℕ) → trackFits n ≡ (eqb n (rowSize * (lastRow n + 1)) && leb 1 (lastRow n) && leb (lastRow n) contextsMost)
+unfolding trackFits lastRow
 track-test n =
-    three-and (eqb (n % rowSize) 0) (leb rowSize n) (leb n (contextsMost * rowSize))
-    ∙ ap (λ x. x && leb rowSize n && leb n (contextsMost * rowSize)) whole
-    ∙ go (eqb n (rowSize * (n / rowSize))) refl
+    three-and (eqb (n % rowSize) 0) (leb (2 * rowSize) n) (leb n ((contextsMost + 1) * rowSize)) ∙ same-test _ _ to from
   where
-    whole : eqb (n % rowSize) 0 ≡ eqb n (rowSize * (n / rowSize))
-    whole = eqb-same (n % rowSize) 0 n (rowSize * (n / rowSize)) (λ e. omega arith) (λ e. omega arith)
+    to : (eqb (n % rowSize) 0 && leb (2 * rowSize) n && leb n ((contextsMost + 1) * rowSize)) ≡ true →
+        (eqb n (rowSize * (lastRow n + 1)) && leb 1 (lastRow n) && leb (lastRow n) contextsMost) ≡ true
+    to p =
+        let a = and-both _ (leb n ((contextsMost + 1) * rowSize)) p in
+        let b = and-both (eqb (n % rowSize) 0) (leb (2 * rowSize) n) (a .0) in
+        let whole = eqb-true (n % rowSize) 0 (b .0) in
+        let least = leb-true (2 * rowSize) n (b .1) in
+        let most = leb-true n ((contextsMost + 1) * rowSize) (a .1) in
+        ap₂ _&&_ (ap₂ _&&_ (eq-eqb n (rowSize * (lastRow n + 1)) (omega arith)) (le-leb 1 (lastRow n) (omega arith))) (le-leb (lastRow n) contextsMost (omega arith))
 
-    go : (x : Bool) → eqb n (rowSize * (n / rowSize)) ≡ x →
-        (x && leb rowSize n && leb n (contextsMost * rowSize)) ≡ (x && leb 1 (n / rowSize) && leb (n / rowSize) contextsMost)
-    go false e = refl
-    go true e =
-        let rows : n ≡ rowSize * (n / rowSize) = eqb-true _ _ e in
-        ap₂ _&&_
-        (leb-same rowSize n 1 (n / rowSize) (λ h. omega arith) (λ h. omega arith))
-        (leb-same n (contextsMost * rowSize) (n / rowSize) contextsMost (λ h. omega arith) (λ h. omega arith))
+    from : (eqb n (rowSize * (lastRow n + 1)) && leb 1 (lastRow n) && leb (lastRow n) contextsMost) ≡ true →
+        (eqb (n % rowSize) 0 && leb (2 * rowSize) n && leb n ((contextsMost + 1) * rowSize)) ≡ true
+    from p =
+        let a = and-both _ (leb (lastRow n) contextsMost) p in
+        let b = and-both (eqb n (rowSize * (lastRow n + 1))) (leb 1 (lastRow n)) (a .0) in
+        let whole = eqb-true n (rowSize * (lastRow n + 1)) (b .0) in
+        let least = leb-true 1 (lastRow n) (b .1) in
+        let most = leb-true (lastRow n) contextsMost (a .1) in
+        ap₂ _&&_ (ap₂ _&&_ (eq-eqb (n % rowSize) 0 (omega arith)) (le-leb (2 * rowSize) n (omega arith))) (le-leb n ((contextsMost + 1) * rowSize) (omega arith))
 
 pub lengths-same : (m t : List ℕ) → not (lengthsFit (length m) (length t)) ≡ refuses13 m t
-unfolding lengthsFit memoryFits refuses13 contexts
+unfolding lengthsFit memoryFits refuses13 contexts lastRow
 lengths-same m t =
     not-two (memoryFits (length m)) (trackFits (length t))
     ∙ ap₂ (λ x y. not x || not y)
@@ -177,15 +184,15 @@ staleCondition x = (16, refuses16 (x .operation) (x .registers) (x .memory) (x .
 -- the checks of a step, then 16, are the conditions of the reference in their order
 pub checks-same : (x : Call) →
     asConditions (checks (x .operation) (x .registers) (length (x .memory)) (length (x .track))) ++ (staleCondition x ∷ []) ≡ conditionsOf x
-unfolding asConditions checks conditions contexts
+unfolding asConditions checks conditions contexts lastRow
 checks-same x = λ i.
     (13, lengths-same (x .memory) (x .track) i)
-    ∷ (14, registers-same (x .registers) (length (x .track) / rowSize) i)
+    ∷ (14, registers-same (x .registers) (lastRow (length (x .track))) i)
     ∷ (7, size-same k a b c i)
     ∷ (8, address-same k a b c i)
     ∷ (9, value-same k a b c i)
     ∷ (10, root-same k a b c i)
-    ∷ (11, context-same k a b c (length (x .track) / rowSize) i)
+    ∷ (11, context-same k a b c (lastRow (length (x .track))) i)
     ∷ (12, mode-same k a b c i)
     ∷ (15, asking-same k a b c (x .registers) i)
     ∷ staleCondition x

@@ -1,7 +1,7 @@
 -- What an operation that passed the checks gives is what the reference's plain machine gives, unless its page is stale.
-use Prim.Native.Nat.{ℕ, suc, _+_, _*_, _/_, _%_, _≤_, _<_}
+use Prim.Native.Nat.{ℕ, suc, _+_, _*_, _-_, _/_, _%_, _≤_, _<_}
 use mathlib.Core.Path.{_≡_, refl, sym, ap, ap₂, _∙_}
-use mathlib.Core.Bool.{Bool, true, false, cond, not, _&&_, true≢false}
+use mathlib.Core.Bool.{Bool, true, false, cond, not, _&&_, _||_, true≢false}
 use mathlib.Core.List.{List, [], _∷_}
 use native.Mathlib.Omega.{arith}
 use lib.Dec.{eqb, leb}
@@ -9,11 +9,11 @@ use lib.ListN.{length, getD}
 use borrow.Author.Tests.{eqb-true, eqb-false, eq-eqb, ne-eqb}
 use Rattle.model.specs.Limits.{pageSize, rowSize}
 use Rattle.model.specs.Numbers.{Result, ok, fault, refused, shown, faultNumber}
-use Rattle.model.specs.reference.Rules.{Translation, found, failed, inMemory, value, stored, walk, physical, rightOf, allows, permissionFault, State, aligned, touched, translated, access, setRegisters, effect, outcome, carriedOut, trackWord, stale, kept, differs, among, refuses16}
+use Rattle.model.specs.reference.Rules.{Translation, found, failed, inMemory, value, stored, walk, physical, rightOf, allows, permissionFault, State, Scope, own, global, aligned, touched, translated, access, setRegisters, effect, outcome, carriedOut, trackWord, contexts, rowOf, stale, kept, differs, among, refuses16}
 use Rattle.model.specs.step.Memory.{bytesOf, within, loadAt, writtenAt}
 use Rattle.model.specs.step.Walk.{walkPage}
 use Rattle.model.specs.step.Rights.{permitted}
-use Rattle.model.specs.step.Track.{noteTrack, wordAt, staleWord}
+use Rattle.model.specs.step.Track.{noteTrack, lastRow, wordAt, staleWord, stalePage}
 use Rattle.model.specs.step.Checks.{isSize, sizeFits}
 use Rattle.model.specs.step.Machine.{After, sizeOf, valueOf, physicalOf, permissionFaultOf, granted, decided, accessAt, readFrom, writeTo, readStep, writeStep, operate}
 use Rattle.model.specs.Demands.{visible}
@@ -22,7 +22,7 @@ use Rattle.model.proofs.BoolLaws.{push}
 use Rattle.model.proofs.Memory.{within-same, number-same, stored-same}
 use Rattle.model.proofs.Walk.{translation, walk-same}
 use Rattle.model.proofs.Rights.{rights-same}
-use Rattle.model.proofs.Words.{walk-range, stale-same}
+use Rattle.model.proofs.Words.{rowKind, walk-range, stale-same}
 
 -- memory and registers together
 abbrev pub state : Registers → List ℕ → State
@@ -90,23 +90,40 @@ granted-same (Mapped e) writes size a v r m =
     (permission-same e)
     ∙ ap (λ b. cond b (cond (inMemory m (physicalOf e a) (bytesOf size)) bytes outside) denied) (rights-same (e .ap) (r .mode) writes)
 
-decided-same : (x : Outcome) (w : ℕ) (writes : Bool) (size : Size) (a v : ℕ) (r : Registers) (m : List ℕ) →
-    taken writes size v (state r m) (decided x w (r .mode) writes size a m)
-    ≡ cond (aligned a (bytesOf size)) (cond (staleWord w x) (refused 16, state r m) (translated writes a (bytesOf size) v (state r m) (translation x))) (fault 0x1, state r m)
+decided-same : (x : Outcome) (b : Bool) (writes : Bool) (size : Size) (a v : ℕ) (r : Registers) (m : List ℕ) →
+    taken writes size v (state r m) (decided x b (r .mode) writes size a m)
+    ≡ cond (aligned a (bytesOf size)) (cond b (refused 16, state r m) (translated writes a (bytesOf size) v (state r m) (translation x))) (fault 0x1, state r m)
 unfolding decided aligned taken
-decided-same x w writes size a v r m =
+decided-same x b writes size a v r m =
     push (taken writes size v (state r m)) (eqb (a % bytesOf size) 0) _ (Fails Alignment)
     ∙ ap (λ y. cond (eqb (a % bytesOf size) 0) y (fault 0x1, state r m))
-    (push (taken writes size v (state r m)) (staleWord w x) Stale _
-    ∙ ap (λ y. cond (staleWord w x) (refused 16, state r m) y) (granted-same x writes size a v r m))
+    (push (taken writes size v (state r m)) b Stale _
+    ∙ ap (λ y. cond b (refused 16, state r m) y) (granted-same x writes size a v r m))
 
--- the stale test of an access
+-- the stale test of a word of a row
+stale-in : (u : Scope) (m t : List ℕ) (root n a : ℕ) → n ≡ rowOf t u →
+    staleWord (rowKind u) (wordAt t n (a / pageSize)) (walkPage m root (a / pageSize)) ≡ differs (kept u (trackWord t u (a / pageSize))) (walk m root a)
+unfolding trackWord
+stale-in u m t root n a e =
+    stale-same u (wordAt t n (a / pageSize)) (walkPage m root (a / pageSize)) (walk-range m root (a / pageSize))
+    ∙ ap₂ (λ k x. differs (kept u (getD t k 0)) x) (let q : n * rowSize + a / pageSize ≡ rowSize * rowOf t u + a / pageSize = rw (← e) (omega arith) in q) (walk-same m root a)
+
+-- the stale test of an access: by the row of the context, or by the global row
 stale-at : (r : Registers) (m t : List ℕ) (a : ℕ) →
-    staleWord (wordAt t (r .context) (a / pageSize)) (walkPage m (r .root) (a / pageSize)) ≡ stale t (r .context) (a / pageSize) (walk m (r .root) a)
-unfolding stale trackWord
+    stalePage t (r .context) (a / pageSize) (walkPage m (r .root) (a / pageSize)) ≡ stale t (r .context) (a / pageSize) (walk m (r .root) a)
+unfolding stalePage stale
 stale-at r m t a =
-    stale-same (wordAt t (r .context) (a / pageSize)) (walkPage m (r .root) (a / pageSize)) (walk-range m (r .root) (a / pageSize))
-    ∙ ap₂ (λ n x. differs (kept (getD t n 0)) x) (let q : r .context * rowSize + a / pageSize ≡ rowSize * r .context + a / pageSize = omega arith in q) (walk-same m (r .root) a)
+    either-stale (staleWord 0 (wordAt t (r .context) (a / pageSize)) x) (staleWord 1 (wordAt t (lastRow (length t)) (a / pageSize)) x)
+    ∙ ap₂ _||_
+    (stale-in (own (r .context)) m t (r .root) (r .context) a (unfold rowOf in refl))
+    (stale-in global m t (r .root) (lastRow (length t)) a (unfold rowOf contexts lastRow in refl))
+  where
+    x : Outcome
+    x = walkPage m (r .root) (a / pageSize)
+
+    either-stale : (x y : Bool) → cond x true y ≡ (x || y)
+    either-stale true y = refl
+    either-stale false y = refl
 
 -- an access in a state: fault 0x1, then 16, then what its translation gives
 access-same : (writes : Bool) (size : Size) (a v : ℕ) (r : Registers) (m t : List ℕ) →
@@ -114,7 +131,7 @@ access-same : (writes : Bool) (size : Size) (a v : ℕ) (r : Registers) (m t : L
     ≡ cond (aligned a (bytesOf size)) (cond (stale t (r .context) (a / pageSize) (walk m (r .root) a)) (refused 16, state r m) (translated writes a (bytesOf size) v (state r m) (walk m (r .root) a))) (fault 0x1, state r m)
 unfolding accessAt
 access-same writes size a v r m t =
-    decided-same (walkPage m (r .root) (a / pageSize)) (wordAt t (r .context) (a / pageSize)) writes size a v r m
+    decided-same (walkPage m (r .root) (a / pageSize)) (stalePage t (r .context) (a / pageSize) (walkPage m (r .root) (a / pageSize))) writes size a v r m
     ∙ ap₂ (λ b x. cond (aligned a (bytesOf size)) (cond b (refused 16, state r m) (translated writes a (bytesOf size) v (state r m) x)) (fault 0x1, state r m)) (stale-at r m t a) (walk-same m (r .root) a)
 
 -- the size that a field names

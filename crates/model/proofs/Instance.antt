@@ -17,7 +17,7 @@ use Rattle.tlb.specs.Tracker.{Tracker, Reply, done, refused as refusedBy}
 use Rattle.tlb.specs.Seen.{Seen, nothing, one, many}
 use Rattle.model.specs.Limits.{pageSize, rowSize}
 use Rattle.model.specs.Numbers.{Result, ok, fault as faulted, refused, shown}
-use Rattle.model.specs.reference.Rules.{Translation, found, failed, walk, State, fresh, aligned, translated, access, effect, outcome, carriedOut, flushes, Held, Places, heldFor, Move, move, orWalk, flushPlace, among, Kept, empty, one as only, several}
+use Rattle.model.specs.reference.Rules.{Translation, found, failed, walk, State, fresh, aligned, translated, access, effect, outcome, carriedOut, Scope, scopeOf, covers, flushes, Held, Places, heldFor, Move, move, orWalk, flushPlace, among, Kept, empty, one as only, several}
 use Rattle.model.specs.reference.Runs.{isRefused}
 use Rattle.model.specs.step.Machine.{After, stepped, started}
 use Rattle.model.specs.Types.{Operation, Kind, Read, Write, Root, Asid, Mode, All, Addr, Ctx, AddrCtx, Entry}
@@ -54,14 +54,14 @@ tables = record {
   Page = ℕ;
   Entry = Entry;
   Fault = ℕ;
-  Tag = ℕ × ℕ;
+  Tag = Scope × ℕ;
   Op = Operation;
   Answer = Result;
   boot = λ g. fresh (g .0) (g .1);
   walk = walkOf;
   inWindow = λ s page. ltb page rowSize;
-  tag = λ s page e. (s .registers .context, page);
-  serves = λ s page u. eqb (u .0) (s .registers .context) && eqb (u .1) page;
+  tag = λ s page e. (scopeOf (s .registers .context) e, page);
+  serves = λ s page u. covers (u .0) (s .registers .context) && eqb (u .1) page;
   names = λ o u. flushes (o .kind) o (u .0) (u .1);
   page = λ s o. pageOf o;
   carry = carryOf;

@@ -1,8 +1,8 @@
 -- The checker carries out what the machine does, and its track keeps what a TLB may hold: the laws of the theory.
-use Prim.Native.Nat.{ℕ, suc, _+_, _*_, _/_, _%_, _<_, _≤_}
+use Prim.Native.Nat.{ℕ, suc, _+_, _*_, _-_, _/_, _%_, _<_, _≤_}
 use mathlib.Core.Path.{_≡_, refl, sym, ap, ap₂, _∙_, subst}
 use mathlib.Core.Logic.{_↔_, _⊎_, inl, inr}
-use mathlib.Core.Bool.{Bool, true, false, cond, not, _&&_, true≢false}
+use mathlib.Core.Bool.{Bool, true, false, cond, not, _&&_, _||_, true≢false}
 use mathlib.Core.Option.{Option, none, some}
 use mathlib.Core.List.{List, [], _∷_, _++_}
 use native.Mathlib.Omega.{arith}
@@ -17,7 +17,7 @@ use Rattle.tlb.specs.Words.{addWord, differsFrom, Coding}
 use Rattle.tlb.proofs.WordLaws.{seen-added, stale-iff}
 use Rattle.model.specs.Limits.{pageSize, rowSize, addressLimit}
 use Rattle.model.specs.Numbers.{Result, ok, fault as faulted, refused, shown, refusalNumber}
-use Rattle.model.specs.reference.Rules.{Translation, found, failed, bits, walk, State, fresh, aligned, outcome, carriedOut, flushes, among, contexts, Kept, empty, one as only, several, wordOf, entryOf, kept, same, addTo, noted, differs, notedIn, wordAfter, trackWord, stale, Given, startConditions, refuses16}
+use Rattle.model.specs.reference.Rules.{Translation, found, failed, bits, walk, State, fresh, aligned, outcome, carriedOut, Scope, own, global, scopeOf, covers, sameScope, suits, flushes, among, contexts, hasRow, Kept, empty, one as only, several, wordOf, entryOf, kept, same, addTo, noted, differs, notedIn, wordAfter, trackWord, stale, Given, startConditions, refuses16}
 use Rattle.model.specs.reference.Runs.{isRefused}
 use Rattle.model.specs.step.Walk.{walkPage}
 use Rattle.model.specs.step.Checks.{checks, firstFailing, addressFits}
@@ -62,7 +62,12 @@ Valid s t = s .registers .context < contexts t
 
 same-contexts : (t u : List ℕ) → length t ≡ length u → contexts t ≡ contexts u
 unfolding contexts
-same-contexts t u e = ap (λ n. n / rowSize) e
+same-contexts t u e = ap (λ n. n / rowSize - 1) e
+
+same-has : (t v : List ℕ) → length t ≡ length v → (u : Scope) → hasRow t u ≡ hasRow v u
+unfolding hasRow
+same-has t v e (own c) = ap (ltb c) (same-contexts t v e)
+same-has t v e global = refl
 
 pub begins : (m t : List ℕ) (root : ℕ) → isRefused (shown (started m t root .answer)) ≡ false → stateOf (started m t root) ≡ fresh m root
 begins m t root p = ap (λ (x : Result × State). x .1) (start-plain m t root (start-not-given m t root p))
@@ -122,24 +127,51 @@ word-zero : (e : Entry) → wordOf e ≡ 0 → ⊥
 unfolding wordOf
 word-zero e p = omega arith
 
-kept-word : (e : Entry) → Fits e → kept (wordOf e) ≡ only e
-unfolding kept
-kept-word e h =
-    rw (ne-eqb (wordOf e) 0 (word-zero e), decoded e h, eq-eqb (wordOf e) (wordOf e) refl)
+-- an entry in range that suits the row of a scope
+abbrev Suiting : Scope → Entry → Type 0
+Suiting u e = Fits e × (suits u e ≡ true)
 
-coding : Coding Entry wordOf same (λ w. seenOf (kept w)) Fits
-coding = record {
+kept-word : (u : Scope) (e : Entry) → Suiting u e → kept u (wordOf e) ≡ only e
+unfolding kept
+kept-word u e h =
+    rw (ne-eqb (wordOf e) 0 (word-zero e), decoded e (h .0), eq-eqb (wordOf e) (wordOf e) refl, h .1)
+
+coding : (u : Scope) → Coding Entry wordOf same (λ w. seenOf (kept u w)) (Suiting u)
+coding u = record {
   ofZero = unfold kept in refl;
   ofOne = unfold kept wordOf entryOf bits in refl;
-  ofEntry = λ e h. ap seenOf (kept-word e h);
+  ofEntry = λ e h. ap seenOf (kept-word u e h);
   sameTrue = same-true;
   sameFalse = same-false;
 }
 
--- the entry that a translation gives
-abbrev mapped : Translation → Option Entry
-mapped (found e) = some e
-mapped (failed n) = none
+-- ── Scopes compared ──
+
+same-scope : (u v : Scope) → sameScope u v ≡ true → u ≡ v
+unfolding sameScope
+same-scope (own c) (own d) p = ap own (eqb-true c d p)
+same-scope (own c) global p = absurd (true≢false (sym p))
+same-scope global (own d) p = absurd (true≢false (sym p))
+same-scope global global p = refl
+
+scope-self : (u : Scope) → sameScope u u ≡ true
+unfolding sameScope
+scope-self (own c) = eq-eqb c c refl
+scope-self global = refl
+
+-- an entry suits the row of its own scope
+suits-own : (c : ℕ) (e : Entry) → Fits e → suits (scopeOf c e) e ≡ true
+unfolding scopeOf
+suits-own c e h = go (eqb (e .global) 1) refl
+  where
+    go : (b : Bool) → eqb (e .global) 1 ≡ b → suits (cond b global (own c)) e ≡ true
+    go true p = unfold suits in p
+    go false p = let q = eqb-false (e .global) 1 p in unfold suits in eq-eqb (e .global) 0 (omega arith)
+
+-- the entry that a translation in a context puts under a scope
+abbrev mapped : Scope → ℕ → Translation → Option Entry
+mapped u c (found e) = cond (sameScope u (scopeOf c e)) (some e) none
+mapped u c (failed n) = none
 
 -- each entry that the tables give is in range
 outcome-range : (s : State) (a : ℕ) (e : Entry) → outcome s a ≡ found e → Fits e
@@ -157,77 +189,110 @@ add-seen empty e w = refl
 add-seen (only x) e w = refl
 add-seen several e w = refl
 
-noted-seen : (x : Translation) (w : ℕ) → ((e : Entry) → x ≡ found e → Fits e) → seenOf (kept (noted x w)) ≡ note entry-discrete (mapped x) (seenOf (kept w))
-unfolding noted note
-noted-seen (found e) w h =
-    ap (λ n. seenOf (kept n)) (add-seen (kept w) e w) ∙ seen-added wordOf same (λ w. seenOf (kept w)) Fits coding entry-discrete e w (h e refl)
-noted-seen (failed n) w h = refl
-
--- ── The set of a context and a page ──
-
-unfoldable pub look : State → List ℕ → ℕ × ℕ → Seen Entry
-look s t u = cond (ltb (u .0) (contexts t) && ltb (u .1) rowSize) (seenOf (kept (trackWord t (u .0) (u .1)))) nothing
-
-unfoldable pub present : State → ℕ × ℕ → Option Entry
-present s u = cond (eqb (u .0) (s .registers .context) && ltb (u .1) rowSize) (mapped (outcome s (u .1 * pageSize))) none
-
-mapped-found : (x : Translation) (e : Entry) → mapped x ≡ some e → x ≡ found e
-mapped-found (found y) e p = ap found (let z : y ≡ e = cc in z)
-mapped-found (failed n) e p = absurd (none-some e p)
-
-present-of : (s : State) (page : ℕ) (e : Entry) → ltb page rowSize ≡ true → walkOf s page ≡ entry e → present s (s .registers .context, page) ≡ some e
-unfolding present walkOf
-present-of s page e h w = rw (eq-eqb (s .registers .context) (s .registers .context) refl, h) (go (outcome s (page * pageSize)) w)
+noted-seen : (u : Scope) (c : ℕ) (x : Translation) (w : ℕ) → ((e : Entry) → x ≡ found e → Fits e) →
+    seenOf (kept u (noted u c x w)) ≡ note entry-discrete (mapped u c x) (seenOf (kept u w))
+unfolding noted
+noted-seen u c (found e) w h = go (sameScope u (scopeOf c e)) refl
   where
-    go : (x : Translation) → asWalk x ≡ entry e → mapped x ≡ some e
-    go (found y) p = ap some (let z : y ≡ e = cc in z)
+    go : (b : Bool) → sameScope u (scopeOf c e) ≡ b →
+        seenOf (kept u (cond b (addTo (kept u w) e w) w)) ≡ note entry-discrete (cond b (some e) none) (seenOf (kept u w))
+    go true p =
+        ap (λ n. seenOf (kept u n)) (add-seen (kept u w) e w)
+        ∙ seen-added wordOf same (λ n. seenOf (kept u n)) (Suiting u) (coding u) entry-discrete e w
+        (h e refl, ap (λ v. suits v e) (same-scope u (scopeOf c e) p) ∙ suits-own c e (h e refl))
+    go false p = unfold note in refl
+noted-seen u c (failed n) w h = unfold note in refl
+
+-- ── The set of a scope and a page ──
+
+unfoldable pub look : State → List ℕ → Scope × ℕ → Seen Entry
+look s t u = cond (hasRow t (u .0) && ltb (u .1) rowSize) (seenOf (kept (u .0) (trackWord t (u .0) (u .1)))) nothing
+
+unfoldable pub present : State → Scope × ℕ → Option Entry
+present s u = cond (ltb (u .1) rowSize) (mapped (u .0) (s .registers .context) (outcome s (u .1 * pageSize))) none
+
+mapped-found : (u : Scope) (c : ℕ) (x : Translation) (e : Entry) → mapped u c x ≡ some e → (x ≡ found e) × (scopeOf c e ≡ u)
+mapped-found u c (found y) e p = go (sameScope u (scopeOf c y)) refl p
+  where
+    go : (b : Bool) → sameScope u (scopeOf c y) ≡ b → cond b (some y) none ≡ some e → (found y ≡ found e) × (scopeOf c e ≡ u)
+    go true q r =
+        let is : y ≡ e = cc in
+        (ap found is, ap (scopeOf c) (sym is) ∙ sym (same-scope u (scopeOf c y) q))
+    go false q r = absurd (none-some e r)
+mapped-found u c (failed n) e p = absurd (none-some e p)
+
+present-of : (s : State) (page : ℕ) (e : Entry) → ltb page rowSize ≡ true → walkOf s page ≡ entry e → present s (scopeOf (s .registers .context) e, page) ≡ some e
+unfolding present walkOf
+present-of s page e h w = rw h (go (outcome s (page * pageSize)) w)
+  where
+    c : ℕ
+    c = s .registers .context
+
+    go : (x : Translation) → asWalk x ≡ entry e → mapped (scopeOf c e) c x ≡ some e
+    go (found y) p =
+        let is : y ≡ e = cc in
+        ap (λ z. cond (sameScope (scopeOf c e) (scopeOf c z)) (some z) none) is ∙ ap (λ b. cond b (some e) none) (scope-self (scopeOf c e))
     go (failed n) p = absurd (let z : _≡_ {A = Bool} true false = cc in true≢false z)
 
-present-at : (s : State) (u : ℕ × ℕ) (e : Entry) → present s u ≡ some e →
-    (page : ℕ) × (ltb page rowSize ≡ true) × (walkOf s page ≡ entry e) × (_≡_ {A = ℕ × ℕ} (s .registers .context, page) u)
+present-at : (s : State) (u : Scope × ℕ) (e : Entry) → present s u ≡ some e →
+    (page : ℕ) × (ltb page rowSize ≡ true) × (walkOf s page ≡ entry e) × (_≡_ {A = Scope × ℕ} (scopeOf (s .registers .context) e, page) u)
 unfolding present walkOf
-present-at s u e p = go (eqb (u .0) (s .registers .context)) (ltb (u .1) rowSize) refl refl p
+present-at s u e p = go (ltb (u .1) rowSize) refl p
   where
-    go : (x y : Bool) → eqb (u .0) (s .registers .context) ≡ x → ltb (u .1) rowSize ≡ y → cond (x && y) (mapped (outcome s (u .1 * pageSize))) none ≡ some e →
-        (page : ℕ) × (ltb page rowSize ≡ true) × (asWalk (outcome s (page * pageSize)) ≡ entry e) × (_≡_ {A = ℕ × ℕ} (s .registers .context, page) u)
-    go true true q h w = (u .1, h, ap asWalk (mapped-found (outcome s (u .1 * pageSize)) e w), λ i. (sym (eqb-true (u .0) (s .registers .context) q) i, u .1))
-    go true false q h w = absurd (none-some e w)
-    go false y q h w = absurd (none-some e w)
+    go : (y : Bool) → ltb (u .1) rowSize ≡ y → cond y (mapped (u .0) (s .registers .context) (outcome s (u .1 * pageSize))) none ≡ some e →
+        (page : ℕ) × (ltb page rowSize ≡ true) × (asWalk (outcome s (page * pageSize)) ≡ entry e) × (_≡_ {A = Scope × ℕ} (scopeOf (s .registers .context) e, page) u)
+    go true h w =
+        let z = mapped-found (u .0) (s .registers .context) (outcome s (u .1 * pageSize)) e w in
+        (u .1, h, ap asWalk (z .0), λ i. (z .1 i, u .1))
+    go false h w = absurd (none-some e w)
+
+-- the scope of what is loaded now has a row
+has-scope : (s : State) (t : List ℕ) (e : Entry) → Valid s t → hasRow t (scopeOf (s .registers .context) e) ≡ true
+unfolding scopeOf
+has-scope s t e v = go (eqb (e .global) 1)
+  where
+    go : (b : Bool) → hasRow t (cond b global (own (s .registers .context))) ≡ true
+    go true = unfold hasRow in refl
+    go false = unfold hasRow in lt-ltb (s .registers .context) (contexts t) v
 
 -- a set outside the track has no entry to note
-absent : (s : State) (t : List ℕ) (c p : ℕ) → Valid s t → (ltb c (contexts t) && ltb p rowSize) ≡ false → present s (c, p) ≡ none
+absent : (s : State) (t : List ℕ) (u : Scope) (p : ℕ) → Valid s t → (hasRow t u && ltb p rowSize) ≡ false → present s (u, p) ≡ none
 unfolding present
-absent s t c p v h = go (eqb c (s .registers .context)) (ltb p rowSize) refl refl
+absent s t u p v h = go (ltb p rowSize) refl
   where
-    go : (x y : Bool) → eqb c (s .registers .context) ≡ x → ltb p rowSize ≡ y → cond (x && y) (mapped (outcome s (p * pageSize))) none ≡ none
-    go true true q r =
-        let e : c ≡ s .registers .context = eqb-true c (s .registers .context) q in
-        absurd (true≢false (sym (ap₂ _&&_ (lt-ltb c (contexts t) (omega arith)) r) ∙ h))
-    go true false q r = refl
-    go false y q r = refl
+    by : (x : Translation) → hasRow t u ≡ false → mapped u (s .registers .context) x ≡ none
+    by (found e) q = at (sameScope u (scopeOf (s .registers .context) e)) refl
+      where
+        at : (b : Bool) → sameScope u (scopeOf (s .registers .context) e) ≡ b → cond b (some e) none ≡ none
+        at true r = absurd (true≢false (sym (has-scope s t e v) ∙ ap (hasRow t) (sym (same-scope u (scopeOf (s .registers .context) e) r)) ∙ q))
+        at false r = refl
+    by (failed n) q = refl
+
+    and-left : (x : Bool) → (x && true) ≡ false → x ≡ false
+    and-left true q = q
+    and-left false q = refl
+
+    go : (y : Bool) → ltb p rowSize ≡ y → cond y (mapped u (s .registers .context) (outcome s (p * pageSize))) none ≡ none
+    go true r = by (outcome s (p * pageSize)) (and-left (hasRow t u) (ap (_&&_ (hasRow t u)) (sym r) ∙ h))
+    go false r = refl
 
 -- noting a word notes its set
-noted-in-seen : (s : State) (c p w : ℕ) → ltb p rowSize ≡ true → seenOf (kept (notedIn s c p w)) ≡ note entry-discrete (present s (c, p)) (seenOf (kept w))
+noted-in-seen : (s : State) (u : Scope) (p w : ℕ) → ltb p rowSize ≡ true → seenOf (kept u (notedIn s u p w)) ≡ note entry-discrete (present s (u, p)) (seenOf (kept u w))
 unfolding notedIn present
-noted-in-seen s c p w h = rw h (go (eqb c (s .registers .context)))
-  where
-    go : (x : Bool) →
-        seenOf (kept (cond x (noted (outcome s (p * pageSize)) w) w)) ≡ note entry-discrete (cond (x && true) (mapped (outcome s (p * pageSize))) none) (seenOf (kept w))
-    go true = noted-seen (outcome s (p * pageSize)) w (λ e q. outcome-range s (p * pageSize) e q)
-    go false = unfold note in refl
+noted-in-seen s u p w h = rw h (noted-seen u (s .registers .context) (outcome s (p * pageSize)) w (λ e q. outcome-range s (p * pageSize) e q))
 
-spared-seen : (b : Bool) (w : ℕ) → seenOf (kept (cond b 0 w)) ≡ spared b (seenOf (kept w))
+spared-seen : (u : Scope) (b : Bool) (w : ℕ) → seenOf (kept u (cond b 0 w)) ≡ spared b (seenOf (kept u w))
 unfolding spared
-spared-seen true w = unfold kept in refl
-spared-seen false w = refl
+spared-seen u true w = unfold kept in refl
+spared-seen u false w = refl
 
 -- flushing a word, then noting it
-after-seen : (o : Operation) (s : State) (c p w : ℕ) → ltb p rowSize ≡ true →
-    seenOf (kept (wordAfter o s c p w)) ≡ note entry-discrete (present s (c, p)) (spared (flushes (o .kind) o c p) (seenOf (kept w)))
+after-seen : (o : Operation) (s : State) (u : Scope) (p w : ℕ) → ltb p rowSize ≡ true →
+    seenOf (kept u (wordAfter o s u p w)) ≡ note entry-discrete (present s (u, p)) (spared (flushes (o .kind) o u p) (seenOf (kept u w)))
 unfolding wordAfter
-after-seen o s c p w h =
-    noted-in-seen s c p (cond (flushes (o .kind) o c p) 0 w) h
-    ∙ ap (note entry-discrete (present s (c, p))) (spared-seen (flushes (o .kind) o c p) w)
+after-seen o s u p w h =
+    noted-in-seen s u p (cond (flushes (o .kind) o u p) 0 w) h
+    ∙ ap (note entry-discrete (present s (u, p))) (spared-seen u (flushes (o .kind) o u p) w)
 
 spared-nothing : (b : Bool) → spared {E = Entry} b nothing ≡ nothing
 unfolding spared
@@ -235,19 +300,19 @@ spared-nothing true = refl
 spared-nothing false = refl
 
 -- a set in the track, and one outside it
-module _ (s : State) (t : List ℕ) (c p : ℕ) where
-  look-in : (ltb c (contexts t) && ltb p rowSize) ≡ true → look s t (c, p) ≡ seenOf (kept (trackWord t c p))
+module _ (s : State) (t : List ℕ) (u : Scope) (p : ℕ) where
+  look-in : (hasRow t u && ltb p rowSize) ≡ true → look s t (u, p) ≡ seenOf (kept u (trackWord t u p))
   unfolding look
   look-in h = rw h
 
-  look-out : (ltb c (contexts t) && ltb p rowSize) ≡ false → look s t (c, p) ≡ nothing
+  look-out : (hasRow t u && ltb p rowSize) ≡ false → look s t (u, p) ≡ nothing
   unfolding look
   look-out h = rw h
 
-look-start : (m t : List ℕ) (root : ℕ) → isRefused (shown (started m t root .answer)) ≡ false → (u : ℕ × ℕ) →
+look-start : (m t : List ℕ) (root : ℕ) → isRefused (shown (started m t root .answer)) ≡ false → (u : Scope × ℕ) →
     look (stateOf (started m t root)) (started m t root .track) u ≡ note entry-discrete (present (stateOf (started m t root)) u) nothing
 unfolding note
-look-start m t root acc u = go (ltb (u .0) (contexts (started m t root .track)) && ltb (u .1) rowSize) refl
+look-start m t root acc u = go (hasRow (started m t root .track) (u .0) && ltb (u .1) rowSize) refl
   where
     s : State
     s = stateOf (started m t root)
@@ -255,28 +320,28 @@ look-start m t root acc u = go (ltb (u .0) (contexts (started m t root .track)) 
     t′ : List ℕ
     t′ = started m t root .track
 
-    same-rows : contexts t′ ≡ contexts t
-    same-rows = same-contexts t′ t (start-track-length m t root)
+    same-rows : hasRow t′ (u .0) ≡ hasRow t (u .0)
+    same-rows = same-has t′ t (start-track-length m t root) (u .0)
 
-    inside : ltb (u .0) (contexts t′) ≡ true → ltb (u .1) rowSize ≡ true → look s t′ u ≡ note entry-discrete (present s u) nothing
+    inside : hasRow t′ (u .0) ≡ true → ltb (u .1) rowSize ≡ true → look s t′ u ≡ note entry-discrete (present s u) nothing
     inside a b =
         look-in s t′ (u .0) (u .1) (ap₂ _&&_ a b)
-        ∙ ap (λ n. seenOf (kept n)) (start-words m t root (start-not-given m t root acc) (u .0) (u .1) (ltb-true (u .0) (contexts t) (ap (ltb (u .0)) (sym same-rows) ∙ a)) (ltb-true (u .1) rowSize b))
-        ∙ ap (λ (z : State). seenOf (kept (notedIn z (u .0) (u .1) 0))) (sym (begins m t root acc))
+        ∙ ap (λ n. seenOf (kept (u .0) n)) (start-words m t root (start-not-given m t root acc) (u .0) (u .1) (sym same-rows ∙ a) (ltb-true (u .1) rowSize b))
+        ∙ ap (λ (z : State). seenOf (kept (u .0) (notedIn z (u .0) (u .1) 0))) (sym (begins m t root acc))
         ∙ noted-in-seen s (u .0) (u .1) 0 b
         ∙ ap (note entry-discrete (present s u)) (unfold kept in refl)
 
-    go : (b : Bool) → (ltb (u .0) (contexts t′) && ltb (u .1) rowSize) ≡ b → look s t′ u ≡ note entry-discrete (present s u) nothing
-    go true e = let q = and-both (ltb (u .0) (contexts t′)) (ltb (u .1) rowSize) e in inside (q .0) (q .1)
+    go : (b : Bool) → (hasRow t′ (u .0) && ltb (u .1) rowSize) ≡ b → look s t′ u ≡ note entry-discrete (present s u) nothing
+    go true e = let q = and-both (hasRow t′ (u .0)) (ltb (u .1) rowSize) e in inside (q .0) (q .1)
     go false e =
         look-out s t′ (u .0) (u .1) e
         ∙ ap (λ x. note entry-discrete x nothing) (sym (absent s t′ (u .0) (u .1) (valid-start m t root acc) e))
         ∙ (unfold note in refl)
 
-look-next : (s : State) (t : List ℕ) (o : Operation) (a : Result) → Valid s t → replyOf (shown (callOf s t o .answer)) ≡ done a → (u : ℕ × ℕ) →
+look-next : (s : State) (t : List ℕ) (o : Operation) (a : Result) → Valid s t → replyOf (shown (callOf s t o .answer)) ≡ done a → (u : Scope × ℕ) →
     look (stateOf (callOf s t o)) (callOf s t o .track) u ≡ note entry-discrete (present (stateOf (callOf s t o)) u) (spared (flushes (o .kind) o (u .0) (u .1)) (look s t u))
 unfolding note
-look-next s t o a v d u = go (ltb (u .0) (contexts t) && ltb (u .1) rowSize) refl
+look-next s t o a v d u = go (hasRow t (u .0) && ltb (u .1) rowSize) refl
   where
     x : Call
     x = callAt s t o
@@ -290,8 +355,8 @@ look-next s t o a v d u = go (ltb (u .0) (contexts t) && ltb (u .1) rowSize) ref
     t′ : List ℕ
     t′ = callOf s t o .track
 
-    same-rows : contexts t′ ≡ contexts t
-    same-rows = same-contexts t′ t (track-length (callAt s t o))
+    same-rows : hasRow t′ (u .0) ≡ hasRow t (u .0)
+    same-rows = same-has t′ t (track-length (callAt s t o)) (u .0)
 
     left : carriedOut o s .1 ≡ s′
     left = ap (λ (z : Result × State). z .1) (sym (plain (callAt s t o) free))
@@ -299,18 +364,18 @@ look-next s t o a v d u = go (ltb (u .0) (contexts t) && ltb (u .1) rowSize) ref
     b : Bool
     b = flushes (o .kind) o (u .0) (u .1)
 
-    inside : ltb (u .0) (contexts t) ≡ true → ltb (u .1) rowSize ≡ true → look s′ t′ u ≡ note entry-discrete (present s′ u) (spared b (look s t u))
+    inside : hasRow t (u .0) ≡ true → ltb (u .1) rowSize ≡ true → look s′ t′ u ≡ note entry-discrete (present s′ u) (spared b (look s t u))
     inside e h =
-        look-in s′ t′ (u .0) (u .1) (ap₂ _&&_ (ap (ltb (u .0)) same-rows ∙ e) h)
-        ∙ ap (λ n. seenOf (kept n)) (words (callAt s t o) free (u .0) (u .1) (ltb-true (u .0) (contexts t) e) (ltb-true (u .1) rowSize h))
-        ∙ ap (λ (z : State). seenOf (kept (wordAfter o z (u .0) (u .1) (trackWord t (u .0) (u .1))))) left
+        look-in s′ t′ (u .0) (u .1) (ap₂ _&&_ (same-rows ∙ e) h)
+        ∙ ap (λ n. seenOf (kept (u .0) n)) (words (callAt s t o) free (u .0) (u .1) e (ltb-true (u .1) rowSize h))
+        ∙ ap (λ (z : State). seenOf (kept (u .0) (wordAfter o z (u .0) (u .1) (trackWord t (u .0) (u .1))))) left
         ∙ after-seen o s′ (u .0) (u .1) (trackWord t (u .0) (u .1)) h
         ∙ ap (λ y. note entry-discrete (present s′ u) (spared b y)) (sym (look-in s t (u .0) (u .1) (ap₂ _&&_ e h)))
 
-    go : (y : Bool) → (ltb (u .0) (contexts t) && ltb (u .1) rowSize) ≡ y → look s′ t′ u ≡ note entry-discrete (present s′ u) (spared b (look s t u))
-    go true e = let q = and-both (ltb (u .0) (contexts t)) (ltb (u .1) rowSize) e in inside (q .0) (q .1)
+    go : (y : Bool) → (hasRow t (u .0) && ltb (u .1) rowSize) ≡ y → look s′ t′ u ≡ note entry-discrete (present s′ u) (spared b (look s t u))
+    go true e = let q = and-both (hasRow t (u .0)) (ltb (u .1) rowSize) e in inside (q .0) (q .1)
     go false e =
-        let e′ : (ltb (u .0) (contexts t′) && ltb (u .1) rowSize) ≡ false = ap (λ n. ltb (u .0) n && ltb (u .1) rowSize) same-rows ∙ e in
+        let e′ : (hasRow t′ (u .0) && ltb (u .1) rowSize) ≡ false = ap (λ y. y && ltb (u .1) rowSize) same-rows ∙ e in
         look-out s′ t′ (u .0) (u .1) e′
         ∙ sym (spared-nothing b)
         ∙ ap (spared b) (sym (look-out s t (u .0) (u .1) e))
@@ -397,28 +462,36 @@ paged o k p = go (among (o .kind) (Read ∷ Write ∷ [])) (aligned (o .a) (o .b
     go true false e f q = absurd (none-some k q)
     go false y e f q = absurd (none-some k q)
 
+-- whether the set of a scope and a page has an entry other than the present outcome, by its word
+abbrev other : Scope → State → List ℕ → ℕ → Bool
+other u s t k = differsFrom wordOf same (seenOf (kept u (trackWord t u k))) (walkOf s k)
+
 -- the condition of 16, of an access
 refuses16-is : (s : State) (t : List ℕ) (o : Operation) (k : ℕ) → Paged o k →
-    refuses16 o (s .registers) (s .memory) t ≡ differsFrom wordOf same (seenOf (kept (trackWord t (s .registers .context) k))) (walkOf s k)
-unfolding refuses16 stale walkOf
+    refuses16 o (s .registers) (s .memory) t ≡ (other (own (s .registers .context)) s t k || other global s t k)
+unfolding refuses16 stale
 refuses16-is s t o k g =
     rw (g .kinds, g .lies)
-    (differs-seen (kept (trackWord t (s .registers .context) (o .a / pageSize))) (walk (s .memory) (s .registers .root) (o .a))
-    ∙ ap (λ x. differsFrom wordOf same (seenOf (kept (trackWord t (s .registers .context) (o .a / pageSize)))) (asWalk x)) (present-walk)
-    ∙ ap (λ n. differsFrom wordOf same (seenOf (kept (trackWord t (s .registers .context) n))) (asWalk (outcome s (n * pageSize)))) (g .page-is))
+    (ap₂ _||_ (by (own (s .registers .context))) (by global)
+    ∙ ap (λ n. other (own (s .registers .context)) s t n || other global s t n) (g .page-is))
   where
     present-walk : walk (s .memory) (s .registers .root) (o .a) ≡ outcome s (o .a / pageSize * pageSize)
     present-walk = unfold outcome in sym (outcome-page s (o .a))
 
+    by : (u : Scope) → differs (kept u (trackWord t u (o .a / pageSize))) (walk (s .memory) (s .registers .root) (o .a)) ≡ other u s t (o .a / pageSize)
+    by u = unfold walkOf in
+        (differs-seen (kept u (trackWord t u (o .a / pageSize))) (walk (s .memory) (s .registers .root) (o .a))
+        ∙ ap (λ x. differsFrom wordOf same (seenOf (kept u (trackWord t u (o .a / pageSize)))) (asWalk x)) present-walk)
+
+-- a set that serves a page in the current context has an entry other than the present outcome
+abbrev Serving : State → List ℕ → ℕ → Type 0
+Serving s t k = (u : Scope × ℕ) × ((covers (u .0) (s .registers .context) && eqb (u .1) k) ≡ true) × Stale (look s t u) (walkOf s k)
+
 stale-at : (s : State) (t : List ℕ) (o : Operation) (k : ℕ) → pageOf o ≡ some k →
     ((r : ℕ) → replyOf (shown (callOf s t o .answer)) ≡ refusedBy r → r ≡ 16) →
-    (replyOf (shown (callOf s t o .answer)) ≡ refusedBy 16)
-    ↔ ((u : ℕ × ℕ) × ((eqb (u .0) (s .registers .context) && eqb (u .1) k) ≡ true) × Stale (look s t u) (walkOf s k))
+    (replyOf (shown (callOf s t o .answer)) ≡ refusedBy 16) ↔ Serving s t k
 stale-at s t o k p h = (to, from)
   where
-    x : Call
-    x = callAt s t o
-
     g : Paged o k
     g = paged o k p
 
@@ -431,31 +504,49 @@ stale-at s t o k p h = (to, from)
     pass : firstFailing (checksOf (callAt s t o)) ≡ Pass
     pass = passes-checks (callAt s t o) by-number
 
-    tested : look s t (c, k) ≡ seenOf (kept (trackWord t c k))
-    tested =
-        let ok = passed-call (callAt s t o) pass in
+    -- the rows that the context uses are in the track
+    has : (u : Scope) → covers u c ≡ true → hasRow t u ≡ true
+    has (own d) e = unfold hasRow in lt-ltb d (contexts t) (rw (eqb-true d c (unfold covers in e)) (passed-call (callAt s t o) pass .given))
+    has global e = unfold hasRow in refl
+
+    tested : (u : Scope) → covers u c ≡ true → look s t (u, k) ≡ seenOf (kept u (trackWord t u k))
+    tested u e =
         let window : o .a / pageSize < rowSize = in-window (o .kind) (o .a) (g .kinds) (unfold Hold checks in passed (checksOf (callAt s t o)) pass .1 .1 .1 .0) in
-        look-in s t c k (ap₂ _&&_ (lt-ltb c (contexts t) (ok .given)) (lt-ltb k rowSize (rw (← g .page-is) window)))
+        look-in s t u k (ap₂ _&&_ (has u e) (lt-ltb k rowSize (rw (← g .page-is) window)))
 
-    law : (differsFrom wordOf same (seenOf (kept (trackWord t c k))) (walkOf s k) ≡ true) ↔ Stale (seenOf (kept (trackWord t c k))) (walkOf s k)
-    law = stale-iff wordOf same (λ w. seenOf (kept w)) Fits coding entry-discrete (seenOf (kept (trackWord t c k))) (walkOf s k)
+    law : (u : Scope) → (other u s t k ≡ true) ↔ Stale (seenOf (kept u (trackWord t u k))) (walkOf s k)
+    law u = stale-iff wordOf same (λ w. seenOf (kept u w)) (Suiting u) (coding u) entry-discrete (seenOf (kept u (trackWord t u k))) (walkOf s k)
 
-    to : replyOf (shown (callOf s t o .answer)) ≡ refusedBy 16 →
-        (u : ℕ × ℕ) × ((eqb (u .0) (s .registers .context) && eqb (u .1) k) ≡ true) × Stale (look s t u) (walkOf s k)
+    by-row : (u : Scope) → covers u c ≡ true → other u s t k ≡ true → Serving s t k
+    by-row u e q =
+        ((u, k), ap₂ _&&_ e (eq-eqb k k refl), subst (λ (y : Seen Entry). Stale y (walkOf s k)) (sym (tested u e)) (law u .0 q))
+
+    either-row : (x y : Bool) → other (own c) s t k ≡ x → other global s t k ≡ y → (x || y) ≡ true → Serving s t k
+    either-row true y p q e = by-row (own c) (unfold covers in eq-eqb c c refl) p
+    either-row false true p q e = by-row global (unfold covers in refl) q
+    either-row false false p q e = absurd (true≢false (sym e))
+
+    to : replyOf (shown (callOf s t o .answer)) ≡ refusedBy 16 → Serving s t k
     to e =
-        let q = given-16 (callAt s t o) pass .0 (reply-refused (shown (callOf s t o .answer)) 16 e) in (
-          (c, k),
-          ap₂ _&&_ (eq-eqb c c refl) (eq-eqb k k refl),
-          subst (λ (y : Seen Entry). Stale y (walkOf s k)) (sym tested) (law .0 (sym (refuses16-is s t o k g) ∙ q)),
-        )
+        let q = given-16 (callAt s t o) pass .0 (reply-refused (shown (callOf s t o .answer)) 16 e) in
+        either-row (other (own c) s t k) (other global s t k) refl refl (sym (refuses16-is s t o k g) ∙ q)
 
-    from : ((u : ℕ × ℕ) × ((eqb (u .0) (s .registers .context) && eqb (u .1) k) ≡ true) × Stale (look s t u) (walkOf s k)) →
-        replyOf (shown (callOf s t o .answer)) ≡ refusedBy 16
+    -- a set that serves the page is one of the two
+    one-of : (u : Scope) → covers u c ≡ true → other u s t k ≡ true → (other (own c) s t k || other global s t k) ≡ true
+    one-of (own d) e q = let here : other (own c) s t k ≡ true = ap (λ n. other (own n) s t k) (sym (eqb-true d c (unfold covers in e))) ∙ q in rw here
+    one-of global e q = rw q (or-true (other (own c) s t k))
+      where
+        or-true : (x : Bool) → (x || true) ≡ true
+        or-true true = refl
+        or-true false = refl
+
+    from : Serving s t k → replyOf (shown (callOf s t o .answer)) ≡ refusedBy 16
     from y =
-        let b = and-both (eqb (y .0 .0) c) (eqb (y .0 .1) k) (y .1) in
-        let u-is : y .0 ≡ (c, k) = λ i. (eqb-true (y .0 .0) c (b .0) i, eqb-true (y .0 .1) k (b .1) i) in
-        let z : Stale (seenOf (kept (trackWord t c k))) (walkOf s k) = subst (λ (v : Seen Entry). Stale v (walkOf s k)) (ap (look s t) u-is ∙ tested) (y .2) in
-        ap replyOf (given-16 (callAt s t o) pass .1 (refuses16-is s t o k g ∙ law .1 z))
+        let b = and-both (covers (y .0 .0) c) (eqb (y .0 .1) k) (y .1) in
+        let u-is : y .0 ≡ (y .0 .0, k) = λ i. (y .0 .0, eqb-true (y .0 .1) k (b .1) i) in
+        let z : Stale (seenOf (kept (y .0 .0) (trackWord t (y .0 .0) k))) (walkOf s k) =
+        subst (λ (v : Seen Entry). Stale v (walkOf s k)) (ap (look s t) u-is ∙ tested (y .0 .0) (b .0)) (y .2) in
+        ap replyOf (given-16 (callAt s t o) pass .1 (refuses16-is s t o k g ∙ one-of (y .0 .0) (b .0) (law (y .0 .0) .1 z)))
 
 pub keeps : Keeps tables checker carries 16
 unfolding carries

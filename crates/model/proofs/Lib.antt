@@ -17,5 +17,6 @@ pub mod Kept
 pub mod Chips
 pub mod ThirdDemand
 pub mod Pinned
+pub mod Across
 pub mod Refuted
 pub mod CaseTools

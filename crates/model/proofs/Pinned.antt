@@ -14,10 +14,10 @@ use Rattle.tlb.specs.Places.{Within, NoClash, Apart}
 use Rattle.tlb.proofs.PlaceLaws.{none-some, some-same, apart-none, apart-dropped, apart-put, apart-flushed}
 use Rattle.model.specs.Limits.{pageSize, rowSize}
 use Rattle.model.specs.Numbers.{Result, fault, shown}
-use Rattle.model.specs.reference.Rules.{Translation, found, failed, State, fresh, aligned, access, translated, effect, outcome, among, Held, Places, heldFor, Move, drop, load, isFree, putIn, move, moves, orWalk, chipOutcome, flushPlace, chipStep}
+use Rattle.model.specs.reference.Rules.{Translation, found, failed, State, fresh, aligned, access, translated, effect, outcome, among, Scope, own, global, covers, Held, Places, heldScope, matches, heldFor, meet, clash, anyClash, Move, drop, load, isFree, putIn, move, moves, orWalk, chipOutcome, flushPlace, chipStep}
 use Rattle.model.specs.reference.Runs.{last, Moment, chipStart, chipNext, chipRun, chipSeen, seen, isRefused, Holds}
 use Rattle.model.specs.step.Machine.{After}
-use Rattle.model.specs.Invisible.{Session, begun, Accepted, checkerRunOf, chipStartOf, chipRunOf, heldBy, atEnd, plainEnd, alignedAccess, checker, Pinned}
+use Rattle.model.specs.Invisible.{Session, begun, Accepted, checkerRunOf, chipStartOf, chipRunOf, heldBy, loadedNow, atEnd, plainEnd, alignedAccess, checker, Pinned}
 use Rattle.model.specs.Types.{Operation, Kind, Read, Write, Root, Asid, Mode, All, Addr, Ctx, AddrCtx, Entry}
 use Rattle.model.proofs.BoolLaws.{and-both}
 use Rattle.model.proofs.Instance.{stateOf, outcome-page, effect-page}
@@ -46,11 +46,14 @@ module _ (Ok : Places → Type 0) (moved : (s : State) (ps : Places) (m : Move) 
   reached : (n : ℕ) (s : State) (xs : List (Operation × Bool)) (first : List Move) (script : ℕ → List Move) → Ok (replicate n none) → Ok (heldBy n s xs first script)
   reached n s xs first script k = all-run (chipStart n s first) xs script (unfold chipStart in all-moves s (replicate n none) first k)
 
--- ── Never two places for one page in one context ──
+-- ── Never two places that match one page in one context ──
 
--- two things held that may not stand together
-clash : Held → Held → Bool
-clash h k = eqb (h .context) (k .context) && eqb (h .page) (k .page)
+-- two scopes that are used in one context meet
+both-cover : (u v : Scope) (c : ℕ) → covers u c ≡ true → covers v c ≡ true → meet u v ≡ true
+unfolding covers meet
+both-cover (own d) (own e) c p q = eq-eqb d e (eqb-true d c p ∙ sym (eqb-true e c q))
+both-cover (own d) global c p q = refl
+both-cover global v c p q = refl
 
 eqb-swap : (a b : ℕ) → eqb a b ≡ eqb b a
 eqb-swap a b = go (eqb a b) refl
@@ -59,41 +62,81 @@ eqb-swap a b = go (eqb a b) refl
     go true p = sym (eq-eqb b a (sym (eqb-true a b p)))
     go false p = sym (ne-eqb b a (λ q. eqb-false a b p (sym q)))
 
+meet-swap : (u v : Scope) → meet u v ≡ meet v u
+unfolding meet
+meet-swap (own c) (own d) = eqb-swap c d
+meet-swap (own c) global = refl
+meet-swap global (own d) = refl
+meet-swap global global = refl
+
 swap : (h k : Held) → clash h k ≡ clash k h
 unfolding clash
-swap h k = ap₂ _&&_ (eqb-swap (h .context) (k .context)) (eqb-swap (h .page) (k .page))
+swap h k = ap₂ _&&_ (meet-swap (heldScope h) (heldScope k)) (eqb-swap (h .page) (k .page))
 
--- where nothing is held for a page, nothing held may not stand beside its entry
-no-clash : (c p : ℕ) (e : Entry) (ps : Places) → heldFor c p ps ≡ none → NoClash clash (held c p e) ps
-unfolding heldFor NoClash Within clash
-no-clash c p e [] q h y = absurd y
-no-clash c p e (none ∷ ps) q h (inl y) = absurd (none-some h y)
-no-clash c p e (none ∷ ps) q h (inr y) = no-clash c p e ps q h y
-no-clash c p e (some x ∷ ps) q h y = go (eqb (x .context) c && eqb (x .page) p) refl q y (λ r z. no-clash c p e ps r h z)
+-- where two scopes meet, some context uses both
+common : (u v : Scope) → meet u v ≡ true → (c : ℕ) × (covers u c ≡ true) × (covers v c ≡ true)
+unfolding covers meet
+common (own d) (own e) p = (d, eq-eqb d d refl, eq-eqb e d (sym (eqb-true d e p)))
+common (own d) global p = (d, eq-eqb d d refl, refl)
+common global (own e) p = (e, refl, eq-eqb e e refl)
+common global global p = (0, refl, refl)
+
+-- what matches one page in one context clashes
+matching-clash : (h k : Held) (c p : ℕ) → matches h c p ≡ true → matches k c p ≡ true → clash h k ≡ true
+unfolding matches clash
+matching-clash h k c p a b =
+    let x = and-both (covers (heldScope h) c) (eqb (h .page) p) a in
+    let y = and-both (covers (heldScope k) c) (eqb (k .page) p) b in
+    ap₂ _&&_ (both-cover (heldScope h) (heldScope k) c (x .0) (y .0)) (eq-eqb (h .page) (k .page) (eqb-true (h .page) p (x .1) ∙ sym (eqb-true (k .page) p (y .1))))
+
+-- and what clashes matches some page in some context
+clash-matching : (h k : Held) → clash h k ≡ true → (c : ℕ) × (matches h c (h .page) ≡ true) × (matches k c (h .page) ≡ true)
+unfolding matches clash
+clash-matching h k a =
+    let x = and-both (meet (heldScope h) (heldScope k)) (eqb (h .page) (k .page)) a in
+    let y = common (heldScope h) (heldScope k) (x .0) in
+    (y .0, ap₂ _&&_ (y .1) (eq-eqb (h .page) (h .page) refl), ap₂ _&&_ (y .2) (eq-eqb (k .page) (h .page) (sym (eqb-true (h .page) (k .page) (x .1)))))
+
+-- nothing held clashes, as the chip tests it and as the theory has it
+no-clash : (x : Held) (ps : Places) → anyClash x ps ≡ false → NoClash clash x ps
+unfolding anyClash NoClash Within
+no-clash x [] q h y = absurd y
+no-clash x (none ∷ ps) q h (inl y) = absurd (none-some h y)
+no-clash x (none ∷ ps) q h (inr y) = no-clash x ps q h y
+no-clash x (some k ∷ ps) q h y = go (clash x k) refl q y (λ r z. no-clash x ps r h z)
   where
-    go : (b : Bool) → (eqb (x .context) c && eqb (x .page) p) ≡ b → cond b (some (x .entry)) (heldFor c p ps) ≡ none → (some x ≡ some h) ⊎ Within h ps →
-        (heldFor c p ps ≡ none → Within h ps → (eqb c (h .context) && eqb p (h .page)) ≡ false) → (eqb c (h .context) && eqb p (h .page)) ≡ false
-    go true a r z rest = absurd (none-some (x .entry) (sym r))
-    go false a r (inl z) rest =
-        ap₂ _&&_ (eqb-swap c (h .context)) (eqb-swap p (h .page))
-        ∙ ap (λ (w : Held). eqb (w .context) c && eqb (w .page) p) (sym (some-same x h z)) ∙ a
+    go : (b : Bool) → clash x k ≡ b → (b || anyClash x ps) ≡ false → (some k ≡ some h) ⊎ Within h ps → (anyClash x ps ≡ false → Within h ps → clash x h ≡ false) → clash x h ≡ false
+    go true a r z rest = absurd (true≢false r)
+    go false a r (inl z) rest = ap (clash x) (sym (some-same k h z)) ∙ a
     go false a r (inr z) rest = rest r z
+
+none-clashes : (x : Held) (ps : Places) → ((h : Held) → Within h ps → clash x h ≡ true → ⊥) → anyClash x ps ≡ false
+unfolding anyClash Within
+none-clashes x [] q = refl
+none-clashes x (none ∷ ps) q = none-clashes x ps (λ h y. q h (inr y))
+none-clashes x (some k ∷ ps) q = go (clash x k) refl (none-clashes x ps (λ h y. q h (inr y)))
+  where
+    go : (b : Bool) → clash x k ≡ b → anyClash x ps ≡ false → (b || anyClash x ps) ≡ false
+    go true a r = absurd (q k (inl refl) a)
+    go false a r = r
 
 apart-moved : (s : State) (ps : Places) (m : Move) → Apart clash ps → Apart clash (move s ps m)
 unfolding move
 apart-moved s ps (drop i) k = apart-dropped clash i ps k
-apart-moved s ps (load i page) k = go (isFree (getD ps i none)) (ltb page rowSize) (isFree (heldFor (s .registers .context) page ps)) refl refl
+apart-moved s ps (load i page) k = go (isFree (getD ps i none)) (ltb page rowSize) refl
   where
-    put : (x : Translation) → getD ps i none ≡ none → heldFor (s .registers .context) page ps ≡ none → Apart clash (putIn i (s .registers .context) page x ps)
-    put (found e) f g = unfold putIn in apart-put clash swap (held (s .registers .context) page e) i ps f (no-clash (s .registers .context) page e ps g) k
-    put (failed n) f g = unfold putIn in k
+    unless : (e : Entry) (b : Bool) → anyClash (held (s .registers .context) page e) ps ≡ b → getD ps i none ≡ none → Apart clash (cond b ps (set ps i (some (held (s .registers .context) page e))))
+    unless e true q f = k
+    unless e false q f = apart-put clash swap (held (s .registers .context) page e) i ps f (no-clash (held (s .registers .context) page e) ps q) k
 
-    go : (a b c : Bool) → isFree (getD ps i none) ≡ a → isFree (heldFor (s .registers .context) page ps) ≡ c →
-        Apart clash (cond (a && b && c) (putIn i (s .registers .context) page (outcome s (page * pageSize)) ps) ps)
-    go true true true f g = put (outcome s (page * pageSize)) (free-none (getD ps i none) f) (free-none (heldFor (s .registers .context) page ps) g)
-    go true true false f g = k
-    go true false c f g = k
-    go false b c f g = k
+    put : (x : Translation) → getD ps i none ≡ none → Apart clash (putIn i (s .registers .context) page x ps)
+    put (found e) f = unfold putIn in unless e (anyClash (held (s .registers .context) page e) ps) refl f
+    put (failed n) f = unfold putIn in k
+
+    go : (a b : Bool) → isFree (getD ps i none) ≡ a → Apart clash (cond (a && b) (putIn i (s .registers .context) page (outcome s (page * pageSize)) ps) ps)
+    go true true f = put (outcome s (page * pageSize)) (free-none (getD ps i none) f)
+    go true false f = k
+    go false b f = k
 
 apart-held : (n : ℕ) (s : State) (xs : List (Operation × Bool)) (first : List Move) (script : ℕ → List Move) → Apart clash (heldBy n s xs first script)
 apart-held n s xs first script =
@@ -123,33 +166,32 @@ one-place (x ∷ ps) a zero (suc j) h k p q c = absurd (beside x ps h k a p (at-
 one-place (x ∷ ps) a (suc i) zero h k p q c = absurd (beside x ps k h a q (at-within ps i h p) (sym (swap h k) ∙ c))
 one-place (x ∷ ps) a (suc i) (suc j) h k p q c = ap suc (one-place ps (apart-rest x ps a) i j h k p q c)
 
-once : (n : ℕ) (s : State) (xs : List (Operation × Bool)) (first : List Move) (script : ℕ → List Move) (i j : ℕ) (h k : Held) →
-    getD (heldBy n s xs first script) i none ≡ some h → getD (heldBy n s xs first script) j none ≡ some k → h .context ≡ k .context → h .page ≡ k .page → i ≡ j
-unfolding clash
-once n s xs first script i j h k p q c d =
-    one-place (heldBy n s xs first script) (apart-held n s xs first script) i j h k p q (ap₂ _&&_ (eq-eqb (h .context) (k .context) c) (eq-eqb (h .page) (k .page) d))
+once : (n : ℕ) (s : State) (xs : List (Operation × Bool)) (first : List Move) (script : ℕ → List Move) (i j : ℕ) (h k : Held) (c p : ℕ) →
+    getD (heldBy n s xs first script) i none ≡ some h → getD (heldBy n s xs first script) j none ≡ some k → matches h c p ≡ true → matches k c p ≡ true → i ≡ j
+once n s xs first script i j h k c p x y a b =
+    one-place (heldBy n s xs first script) (apart-held n s xs first script) i j h k x y (matching-clash h k c p a b)
 
 -- ── What is held is used ──
 
-held-found : (c p : ℕ) (e : Entry) (ps : Places) → Apart clash ps → Within (held c p e) ps → heldFor c p ps ≡ some e
+held-found : (c p : ℕ) (h : Held) (ps : Places) → Apart clash ps → Within h ps → matches h c p ≡ true → heldFor c p ps ≡ some (h .entry)
 unfolding heldFor Within
-held-found c p e [] a y = absurd y
-held-found c p e (none ∷ ps) a (inl q) = absurd (none-some (held c p e) q)
-held-found c p e (none ∷ ps) a (inr y) = held-found c p e ps (apart-rest none ps a) y
-held-found c p e (some x ∷ ps) a (inl q) =
-    let same = some-same x (held c p e) q in
-    rw (eq-eqb (x .context) c (ap (λ (h : Held). h .context) same), eq-eqb (x .page) p (ap (λ (h : Held). h .page) same)) (ap (λ (h : Held). some (h .entry)) same)
-held-found c p e (some x ∷ ps) a (inr y) = go (eqb (x .context) c && eqb (x .page) p) refl (held-found c p e ps (apart-rest (some x) ps a) y)
+held-found c p h [] a y m = absurd y
+held-found c p h (none ∷ ps) a (inl q) m = absurd (none-some h q)
+held-found c p h (none ∷ ps) a (inr y) m = held-found c p h ps (apart-rest none ps a) y m
+held-found c p h (some x ∷ ps) a (inl q) m =
+    let same = some-same x h q in
+    rw (ap (λ (z : Held). matches z c p) same ∙ m) (ap (λ (z : Held). some (z .entry)) same)
+held-found c p h (some x ∷ ps) a (inr y) m = go (matches x c p) refl (held-found c p h ps (apart-rest (some x) ps a) y m)
   where
-    go : (b : Bool) → (eqb (x .context) c && eqb (x .page) p) ≡ b → heldFor c p ps ≡ some e → cond b (some (x .entry)) (heldFor c p ps) ≡ some e
-    go true q r = absurd (beside (some x) ps x (held c p e) a refl y (unfold clash in q))
+    go : (b : Bool) → matches x c p ≡ b → heldFor c p ps ≡ some (h .entry) → cond b (some (x .entry)) (heldFor c p ps) ≡ some (h .entry)
+    go true q r = absurd (beside (some x) ps x h a refl y (matching-clash x h c p q m))
     go false q r = r
 
-held-used : (n : ℕ) (s : State) (xs : List (Operation × Bool)) (first : List Move) (script : ℕ → List Move) (now : State) (a : ℕ) (e : Entry) →
-    Holds (now .registers .context) (a / pageSize) e (heldBy n s xs first script) → chipOutcome now (heldBy n s xs first script) a ≡ found e
+held-used : (n : ℕ) (s : State) (xs : List (Operation × Bool)) (first : List Move) (script : ℕ → List Move) (now : State) (a : ℕ) (h : Held) →
+    Holds h (heldBy n s xs first script) → matches h (now .registers .context) (a / pageSize) ≡ true → chipOutcome now (heldBy n s xs first script) a ≡ found (h .entry)
 unfolding chipOutcome orWalk
-held-used n s xs first script now a e y =
-    rw (held-found (now .registers .context) (a / pageSize) e (heldBy n s xs first script) (apart-held n s xs first script) (holds-within (now .registers .context) (a / pageSize) e (heldBy n s xs first script) y))
+held-used n s xs first script now a h y m =
+    rw (held-found (now .registers .context) (a / pageSize) h (heldBy n s xs first script) (apart-held n s xs first script) (holds-within h (heldBy n s xs first script) y) m)
 
 -- ── Moves ──
 
@@ -157,11 +199,16 @@ put-in : (x : Held) (i : ℕ) (ps : Places) → i < length ps → Within x (set 
 put-in x i ps h = at-within (set ps i (some x)) i x (getD-set-same ps i (some x) none h)
 
 can-load : (s : State) (ps : Places) (i page : ℕ) (e : Entry) → i < length ps → getD ps i none ≡ none → page < rowSize →
-    outcome s (page * pageSize) ≡ found e → heldFor (s .registers .context) page ps ≡ none → Holds (s .registers .context) page e (move s ps (load i page))
+    outcome s (page * pageSize) ≡ found e →
+    ((h : Held) (c p : ℕ) → Holds h ps → matches h c p ≡ true → matches (loadedNow s page e) c p ≡ true → ⊥) →
+    Holds (loadedNow s page e) (move s ps (load i page))
 unfolding move isFree putIn
 can-load s ps i page e l f w o n =
-    within-holds (s .registers .context) page e (move s ps (load i page))
-    (rw (f, lt-ltb page rowSize w, n, o) (put-in (held (s .registers .context) page e) i ps l))
+    within-holds (loadedNow s page e) (move s ps (load i page))
+    (rw (f, lt-ltb page rowSize w, o, none-clashes (loadedNow s page e) ps apart) (put-in (loadedNow s page e) i ps l))
+  where
+    apart : (h : Held) → Within h ps → clash (loadedNow s page e) h ≡ true → ⊥
+    apart h y c = let z = clash-matching (loadedNow s page e) h c in n h (z .0) page (within-holds h ps y) (z .2) (z .1)
 
 drops : (s : State) (ps : Places) (i : ℕ) → getD (move s ps (drop i)) i none ≡ none
 unfolding move
@@ -181,10 +228,14 @@ drops-only s ps i j ne = getD-set-other ps i j none none ne
 size-moved : (n : ℕ) (s : State) (ps : Places) (m : Move) → length ps ≡ n → length (move s ps m) ≡ n
 unfolding move
 size-moved n s ps (drop i) e = length-set ps i none ∙ e
-size-moved n s ps (load i page) e = go (isFree (getD ps i none) && ltb page rowSize && isFree (heldFor (s .registers .context) page ps))
+size-moved n s ps (load i page) e = go (isFree (getD ps i none) && ltb page rowSize)
   where
+    unless : (h : Held) (b : Bool) → length (cond b ps (set ps i (some h))) ≡ n
+    unless h true = e
+    unless h false = length-set ps i (some h) ∙ e
+
     put : (x : Translation) → length (putIn i (s .registers .context) page x ps) ≡ n
-    put (found y) = unfold putIn in length-set ps i (some (held (s .registers .context) page y)) ∙ e
+    put (found y) = unfold putIn in unless (held (s .registers .context) page y) (anyClash (held (s .registers .context) page y) ps)
     put (failed k) = unfold putIn in e
 
     go : (b : Bool) → length (cond b (putIn i (s .registers .context) page (outcome s (page * pageSize)) ps) ps) ≡ n

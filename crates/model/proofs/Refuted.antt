@@ -9,11 +9,12 @@ use native.Mathlib.Decide.{ℕ-discrete}
 use native.Mathlib.Omega.{arith}
 use lib.Dec.{eqb, ltb, leb}
 use lib.ListN.{length, set, replicate}
+use borrow.Author.Tests.{eqb-true, lt-ltb}
 use Rattle.tlb.specs.Places.{Within}
 use Rattle.tlb.proofs.PlaceLaws.{within-none, within-dropped}
 use Rattle.model.specs.Limits.{pageSize, rowSize}
 use Rattle.model.specs.Numbers.{Result, ok, fault, refused, shown, refusalNumber}
-use Rattle.model.specs.reference.Rules.{Translation, found, failed, State, fresh, aligned, outcome, setRegisters, effect, carriedOut, plainStep, trackWord, Held, Places, heldFor, Move, drop, load, isFree, putIn, move, moves, chipStep, flushPlace, flushes, walk, descriptor, tableWord, section, bits, value, inMemory, conditions, startConditions, Given, among, contexts, refuses7, refuses8, refuses9, refuses10, refuses11, refuses12, refuses13, refuses14, refuses15, refuses16, stale, kept, differs, noted, notedIn, chipOutcome, orWalk}
+use Rattle.model.specs.reference.Rules.{Translation, found, failed, State, fresh, aligned, outcome, setRegisters, effect, carriedOut, plainStep, trackWord, Scope, own, global, scopeOf, covers, Held, Places, heldScope, matches, heldFor, anyClash, Move, drop, load, isFree, putIn, move, moves, chipStep, flushPlace, flushes, walk, descriptor, tableWord, globalBy, section, bits, value, inMemory, conditions, startConditions, Given, among, contexts, hasRow, refuses7, refuses8, refuses9, refuses10, refuses11, refuses12, refuses13, refuses14, refuses15, refuses16, stale, kept, differs, noted, notedIn, chipOutcome, orWalk}
 use Rattle.model.specs.reference.Runs.{last, Checker, next, checkerRun, isRefused, told, seen, plainRun, Moment, chipStart, chipNext, chipRun, chipSeen, Holds}
 use Rattle.model.specs.step.Checks.{isSize, sizeFits, firstFailing}
 use Rattle.model.specs.step.Machine.{After, started, stepped}
@@ -67,25 +68,30 @@ module _ (P : Held → Type 0) (s : State) (loads : (page : ℕ) (e : Entry) →
   moves-all ps (m ∷ ms) a = moves-all (move s ps m) ms (move-all ps m a)
 
 -- before the first operation a chip holds only present entries
-pub fresh-held : (n : ℕ) (s : State) (first : List Move) (c p : ℕ) (e : Entry) → Holds c p e (chipStart n s first .held) → outcome s (p * pageSize) ≡ found e
+pub fresh-held : (n : ℕ) (s : State) (first : List Move) (h : Held) → Holds h (chipStart n s first .held) → outcome s (h .page * pageSize) ≡ found (h .entry)
 unfolding chipStart
-fresh-held n s first c p e y =
-    moves-all (λ h. outcome s (h .page * pageSize) ≡ found (h .entry)) s (λ page x q. q) (replicate n none) first
-    (λ h w. absurd (within-none h n w)) (held c p e) (holds-within c p e _ y)
+fresh-held n s first h y =
+    moves-all (λ k. outcome s (k .page * pageSize) ≡ found (k .entry)) s (λ page x q. q) (replicate n none) first
+    (λ k w. absurd (within-none k n w)) h (holds-within h _ y)
 
 -- so directly after a start no TLB can differ
 pub none-differs : (m : Checker) (x : Session) (o : Operation) → x .operations ≡ [] → CouldDiffer m x o → ⊥
-none-differs m x o e y = go (x .operations) e (y .held) (y .other)
+none-differs m x o e y = go (x .operations) e (y .holds) (y .other)
   where
+    page-is : y .held .page ≡ o .a / pageSize
+    page-is = eqb-true (y .held .page) (o .a / pageSize) (and-both (covers (heldScope (y .held)) (plainEnd m x .registers .context)) (eqb (y .held .page) (o .a / pageSize)) (unfold matches in y .matching) .1)
+
     go : (os : List Operation) → os ≡ [] →
-        Holds (last (none, fresh (x .image) (x .root)) (plainRun (fresh (x .image) (x .root)) (told m (begun m x) os)) .1 .registers .context) (o .a / pageSize) (y .entry)
-        (last (chipStartOf x (suc (y .places)) (y .first)) (chipRun (chipStartOf x (suc (y .places)) (y .first)) (told m (begun m x) os) (y .script)) .held) →
-        (outcome (last (none, fresh (x .image) (x .root)) (plainRun (fresh (x .image) (x .root)) (told m (begun m x) os)) .1) (o .a) ≡ found (y .entry) → ⊥) → ⊥
+        Holds (y .held) (last (chipStartOf x (suc (y .places)) (y .first)) (chipRun (chipStartOf x (suc (y .places)) (y .first)) (told m (begun m x) os) (y .script)) .held) →
+        (outcome (last (none, fresh (x .image) (x .root)) (plainRun (fresh (x .image) (x .root)) (told m (begun m x) os)) .1) (o .a) ≡ found (y .held .entry) → ⊥) → ⊥
     go [] q h d = unfold told plainRun chipRun last in at h d
       where
-        at : Holds (fresh (x .image) (x .root) .registers .context) (o .a / pageSize) (y .entry) (chipStartOf x (suc (y .places)) (y .first) .held) →
-            (outcome (fresh (x .image) (x .root)) (o .a) ≡ found (y .entry) → ⊥) → ⊥
-        at h d = d (sym (outcome-page (fresh (x .image) (x .root)) (o .a)) ∙ fresh-held (suc (y .places)) (fresh (x .image) (x .root)) (y .first) _ (o .a / pageSize) (y .entry) h)
+        at : Holds (y .held) (chipStartOf x (suc (y .places)) (y .first) .held) →
+            (outcome (fresh (x .image) (x .root)) (o .a) ≡ found (y .held .entry) → ⊥) → ⊥
+        at h d = d
+            (sym (outcome-page (fresh (x .image) (x .root)) (o .a))
+            ∙ ap (λ n. outcome (fresh (x .image) (x .root)) (n * pageSize)) (sym page-is)
+            ∙ fresh-held (suc (y .places)) (fresh (x .image) (x .root)) (y .first) (y .held) h)
     go (a ∷ rest) q h d = let z : _≡_ {A = Bool} true false = cc in true≢false z
 
 pub no-stale-at-once : (m : Checker) → SaysStaleAtOnce m → StaleOnlyThen m → ⊥
@@ -116,9 +122,9 @@ chip-plain m agrees x acc = sym (idle-plain none (fresh (x .image) (x .root)) (t
 
 -- ── A small image with two maps ──
 
--- three pages; under root 0 nothing is mapped; under root 0x80 the first MiB is a section at 0 with AP 1; 7 stands at the start of page 2
+-- three pages; under root 0 nothing is mapped; under root 0x80 the first MiB is a section at 0 with AP 1 and nG set; 7 stands at the start of page 2
 unfoldable pub image : List ℕ
-image = set (set (set (replicate 12288 0) 0x80 2) 0x81 4) 0x2000 7
+image = set (set (set (set (replicate 12288 0) 0x80 2) 0x81 4) 0x82 2) 0x2000 7
 
 unfoldable pub toRoot : ℕ → Operation
 toRoot a = record { kind = Root; a = a; b = 0; c = 0 }
@@ -128,7 +134,10 @@ readPage2 = record { kind = Read; a = 0x2000; b = 4; c = 0 }
 
 -- what a TLB can hold of page 2 while the root is 0x80
 unfoldable pub entry2 : Entry
-entry2 = record { frame = 2; ap = 1; section = 1 }
+entry2 = record { frame = 2; ap = 1; section = 1; global = 0 }
+
+unfoldable pub held2 : Held
+held2 = held 0 2 entry2
 
 -- the state with this root
 at : ℕ → State
@@ -139,17 +148,17 @@ unfolding image
 image-length = refl
 
 -- no condition of a start holds on this image with a track of this length
-start-free : (t : List ℕ) → length t ≡ 2048 → (firstHolding (startConditions image t 0) ≡ none) × (firstHolding (startConditions image t 0x80) ≡ none)
+start-free : (t : List ℕ) → length t ≡ 3072 → (firstHolding (startConditions image t 0) ≡ none) × (firstHolding (startConditions image t 0x80) ≡ none)
 unfolding startConditions firstHolding refuses13 contexts
 start-free t e = (rw (image-length, e), rw (image-length, e))
 
 -- none of a change of root does
-root-free : (t : List ℕ) → length t ≡ 2048 → (firstHolding (conditions (toRoot 0x80) (at 0 .registers) image t) ≡ none) × (firstHolding (conditions (toRoot 0) (at 0x80 .registers) image t) ≡ none)
+root-free : (t : List ℕ) → length t ≡ 3072 → (firstHolding (conditions (toRoot 0x80) (at 0 .registers) image t) ≡ none) × (firstHolding (conditions (toRoot 0) (at 0x80 .registers) image t) ≡ none)
 unfolding conditions firstHolding refuses13 refuses14 refuses7 refuses8 refuses9 refuses10 refuses11 refuses12 refuses15 refuses16 among contexts toRoot at
 root-free t e = (rw (image-length, e), rw (image-length, e))
 
 -- and of the read only 16 can
-read-free : (t : List ℕ) → length t ≡ 2048 → firstHolding (conditions readPage2 (at 0 .registers) image t) ≡ cond (refuses16 readPage2 (at 0 .registers) image t) (some 16) none
+read-free : (t : List ℕ) → length t ≡ 3072 → firstHolding (conditions readPage2 (at 0 .registers) image t) ≡ cond (refuses16 readPage2 (at 0 .registers) image t) (some 16) none
 unfolding conditions firstHolding refuses13 refuses14 refuses7 refuses8 refuses9 refuses10 refuses11 refuses12 refuses15 among contexts readPage2 at
 read-free t e = rw (image-length, e)
 
@@ -174,19 +183,18 @@ tailOf (y ∷ ys) = ys
 -- ── A read of a page that some TLB may still hold ──
 
 -- after what was told, a TLB of one place with these moves holds the entry of page 2, and the tables no longer map it
-abbrev Differs : ℕ → List Move → (ℕ → List Move) → List (Operation × Bool) → Type 0
-Differs root first script l =
-    Holds (last {A = Option Result × State} (none, fresh image root) (plainRun (fresh image root) l) .1 .registers .context) (readPage2 .a / pageSize) entry2
-    (last (chipStart 1 (fresh image root) first) (chipRun (chipStart 1 (fresh image root) first) l script) .held)
-    × (outcome (last {A = Option Result × State} (none, fresh image root) (plainRun (fresh image root) l) .1) (readPage2 .a) ≡ found entry2 → ⊥)
+record Differs (root : ℕ) (first : List Move) (script : ℕ → List Move) (l : List (Operation × Bool)) : Type 0 where
+  holds : Holds held2 (last (chipStart 1 (fresh image root) first) (chipRun (chipStart 1 (fresh image root) first) l script) .held)
+  matching : matches held2 (last {A = Option Result × State} (none, fresh image root) (plainRun (fresh image root) l) .1 .registers .context) (readPage2 .a / pageSize) ≡ true
+  other : outcome (last {A = Option Result × State} (none, fresh image root) (plainRun (fresh image root) l) .1) (readPage2 .a) ≡ found (held2 .entry) → ⊥
 
 unfolded-found : (n : ℕ) (e : Entry) → failed n ≡ found e → ⊥
 unfolded-found n e q = let z : _≡_ {A = Bool} true false = cc in true≢false z
 
 -- loaded before the root changes
 loaded-first : Differs 0x80 (load 0 2 ∷ []) (λ i. []) ((toRoot 0, false) ∷ [])
-unfolding last plainRun plainStep carriedOut effect setRegisters fresh chipStart chipRun chipNext chipStep moves move isFree heldFor putIn outcome walk descriptor tableWord section bits value inMemory flushPlace flushes Holds readPage2 toRoot entry2 image
-loaded-first = (inl refl, λ q. unfolded-found 0x5 entry2 q)
+unfolding last plainRun plainStep carriedOut effect setRegisters fresh chipStart chipRun chipNext chipStep moves move isFree anyClash putIn outcome walk descriptor tableWord section globalBy bits value inMemory heldScope scopeOf covers matches flushPlace flushes Holds readPage2 toRoot entry2 held2 image
+loaded-first = record { holds = inl refl; matching = refl; other = λ q. unfolded-found 0x5 entry2 q }
 
 -- loaded after the first change of root
 unfoldable pub afterFirst : ℕ → List Move
@@ -194,22 +202,22 @@ afterFirst zero = load 0 2 ∷ []
 afterFirst (suc i) = []
 
 loaded-between : Differs 0 [] afterFirst ((toRoot 0x80, false) ∷ (toRoot 0, false) ∷ [])
-unfolding last plainRun plainStep carriedOut effect setRegisters fresh chipStart chipRun chipNext chipStep moves move isFree heldFor putIn outcome walk descriptor tableWord section bits value inMemory flushPlace flushes Holds readPage2 toRoot entry2 image afterFirst
-loaded-between = (inl refl, λ q. unfolded-found 0x5 entry2 q)
+unfolding last plainRun plainStep carriedOut effect setRegisters fresh chipStart chipRun chipNext chipStep moves move isFree anyClash putIn outcome walk descriptor tableWord section globalBy bits value inMemory heldScope scopeOf covers matches flushPlace flushes Holds readPage2 toRoot entry2 held2 image afterFirst
+loaded-between = record { holds = inl refl; matching = refl; other = λ q. unfolded-found 0x5 entry2 q }
 
 -- under root 0 page 2 is not mapped, and an empty word makes it not stale
 page2-unmapped : outcome (fresh image 0) (2 * pageSize) ≡ failed 0x5
 unfolding outcome fresh walk descriptor tableWord bits value inMemory image
 page2-unmapped = refl
 
-empty-not-stale : (t : List ℕ) → trackWord t 0 2 ≡ 0 → refuses16 readPage2 (at 0 .registers) (at 0 .memory) t ≡ false
+empty-not-stale : (t : List ℕ) → (trackWord t (own 0) 2 ≡ 0) × (trackWord t global 2 ≡ 0) → refuses16 readPage2 (at 0 .registers) (at 0 .memory) t ≡ false
 unfolding refuses16 among aligned stale kept differs readPage2 at
-empty-not-stale t e = rw e
+empty-not-stale t e = rw (e .0, e .1)
 
 unfoldable pub track0 : List ℕ
-track0 = replicate 2048 0
+track0 = replicate 3072 0
 
-long : length track0 ≡ 2048
+long : length track0 ≡ 3072
 unfolding track0
 long = refl
 
@@ -232,7 +240,7 @@ module _ (m : Checker) (ord : Orderly m) (start : SameBegins m) (plain : SamePla
   -- an operation on this state, with a track of this length
   record Handed (x : After) (root : ℕ) : Type 0 where
     state : stateOf x ≡ at root
-    long-track : length (x .track) ≡ 2048
+    long-track : length (x .track) ≡ 3072
 
   begins : (root : ℕ) → firstHolding (startConditions image track0 root) ≡ none → Handed (m .start image track0 root) root
   unfolding session fresh at
@@ -242,7 +250,7 @@ module _ (m : Checker) (ord : Orderly m) (start : SameBegins m) (plain : SamePla
   }
 
   -- a change of root that no condition turns back is carried out
-  changes : (x : After) (root a : ℕ) → Handed x root → ((t : List ℕ) → length t ≡ 2048 → firstHolding (conditions (toRoot a) (at root .registers) image t) ≡ none) →
+  changes : (x : After) (root a : ℕ) → Handed x root → ((t : List ℕ) → length t ≡ 3072 → firstHolding (conditions (toRoot a) (at root .registers) image t) ≡ none) →
       isRefused (shown (next m (toRoot a) x .answer)) ≡ false
   changes x root a h free = not-refused-is (shown (next m (toRoot a) x .answer)) (λ r q. go r q (ℕ-discrete r 16))
     where
@@ -340,7 +348,7 @@ module _ (m : Checker) (ord : Orderly m) (start : SameBegins m) (plain : SamePla
           ap₂ (λ (s : State) (t : List ℕ). refuses16 readPage2 (s .registers) (s .memory) t) (sym back-state) (sym (copied w))
           ∙ by .says16 readPage2 (x .registers) (x .memory) (x .track) (q ∙ ap refused (only-16 x back r q))
 
-      word : trackWord (m .start image track0 0 .track) 0 2 ≡ 0
+      word : (trackWord (m .start image track0 0 .track) (own 0) 2 ≡ 0) × (trackWord (m .start image track0 0 .track) global 2 ≡ 0)
       word = unfold session in by .unmapped (session 0 []) (start-accepted m ord 0 free0 []) 2 0x5 (omega arith) page2-unmapped
 
   -- ── What the second half says of it ──
@@ -354,7 +362,7 @@ module _ (m : Checker) (ord : Orderly m) (start : SameBegins m) (plain : SamePla
     is-stale root os first script l acc e d h =
         let y = subst (Differs root first script) (sym e) d in
         always (session root os) acc readPage2 (unfold alignedAccess among aligned readPage2 in refl) (only-16 (atEnd m (session root os)) h)
-        (record { places = 0; first = first; script = script; entry = entry2; held = y .0; other = y .1 })
+        (record { places = 0; first = first; script = script; held = held2; holds = y .holds; matching = y .matching; other = y .other })
 
     -- as it is after root 0x80 and back
     stale-back : shown (next m readPage2 (next m (toRoot 0) (next m (toRoot 0x80) (m .start image track0 0))) .answer) ≡ refused 16
@@ -399,12 +407,12 @@ module _ (m : Checker) (ord : Orderly m) (start : SameBegins m) (plain : SamePla
       stale-then =
           is-stale (always-then m exact) 0x80 (toRoot 0 ∷ []) (load 0 2 ∷ []) (λ i. []) ((toRoot 0, false) ∷ []) (start-accepted m ord 0x80 free80 (toRoot 0 ∷ [])) told-one loaded-first after-one
 
-      -- the same read directly after a start with root 0, on a track that differs at most in the row of context 0
+      -- the same read directly after a start with root 0, on a track that differs at most in the row of context 0 and in the global row
       alike : AlikeBut 0 (next m (toRoot 0) (m .start image track0 0x80) .track) (m .start image track0 0 .track)
       alike = record {
         lengths = after-one .long-track ∙ sym (begins 0 free0 .long-track);
         others = λ c p n q.
-            subst (λ (s : State). (c ≡ s .registers .context → ⊥) → trackWord (next m (toRoot 0) (m .start image track0 0x80) .track) c p ≡ trackWord (m .start image track0 0x80 .track) c p)
+            subst (λ (s : State). (c ≡ s .registers .context → ⊥) → trackWord (next m (toRoot 0) (m .start image track0 0x80) .track) (own c) p ≡ trackWord (m .start image track0 0x80 .track) (own c) p)
             (at-begin .state) (λ k. unfold toRoot in w .rootOthers 0 _ _ _ c p k q) (unfold at in n)
             ∙ w .startOthers image track0 0x80 c p n q
             ∙ sym (w .startOthers image track0 0 c p n q);
@@ -489,9 +497,9 @@ orderly = record {
   stepLength = λ o g i t. track-length (call o g i t);
 }
 
-empty-noted : (i : List ℕ) (root p n : ℕ) → outcome (fresh i root) (p * pageSize) ≡ failed n → notedIn (fresh i root) 0 p 0 ≡ 0
+empty-noted : (i : List ℕ) (root : ℕ) (u : Scope) (p n : ℕ) → outcome (fresh i root) (p * pageSize) ≡ failed n → notedIn (fresh i root) u p 0 ≡ 0
 unfolding notedIn noted fresh
-empty-noted i root p n e = rw e
+empty-noted i root u p n e = rw e
 
 -- and goes by the track
 pub by-track : GoesByTrack checker
@@ -502,10 +510,13 @@ by-track = record {
 }
   where
     unmapped : (i t : List ℕ) (root : ℕ) → isRefused (shown (started i t root .answer)) ≡ false → (p n : ℕ) → p < rowSize → outcome (fresh i root) (p * pageSize) ≡ failed n →
-        Begun (started i t root) i t root → trackWord (started i t root .track) 0 p ≡ 0
+        Begun (started i t root) i t root → (trackWord (started i t root .track) (own 0) p ≡ 0) × (trackWord (started i t root .track) global p ≡ 0)
     unmapped i t root acc p n h e (turned k b) = absurd (not-refused _ (refusalNumber k) acc (ap (λ (y : After). shown (y .answer)) b))
     unmapped i t root acc p n h e (noted-then a k b) =
-        start-words i t root (λ r g. not-refused _ r acc (start-exactly i t root r .1 g)) 0 p k h ∙ empty-noted i root p n e
+        (by (own 0) (unfold hasRow in lt-ltb 0 (contexts t) k), by global (unfold hasRow in refl))
+      where
+        by : (u : Scope) → hasRow t u ≡ true → trackWord (started i t root .track) u p ≡ 0
+        by u q = start-words i t root (λ r g. not-refused _ r acc (start-exactly i t root r .1 g)) u p q h ∙ empty-noted i root u p n e
 
 unfoldable pub copyingStep : Operation → Registers → List ℕ → List ℕ → After
 copyingStep o g i t = record {

@@ -17,7 +17,7 @@ use Rattle.tlb.proofs.TlbSound.{tlb-sound}
 use Rattle.tlb.proofs.Exact.{exact}
 use Rattle.model.specs.Limits.{pageSize, rowSize}
 use Rattle.model.specs.Numbers.{Result, ok, fault, refused, shown}
-use Rattle.model.specs.reference.Rules.{Translation, found, failed, State, fresh, aligned, effect, outcome, carriedOut, plainStep, Held, Places, heldFor, Move, move, moves, orWalk, chipOutcome, flushPlace, chipStep, among}
+use Rattle.model.specs.reference.Rules.{Translation, found, failed, State, fresh, aligned, effect, outcome, carriedOut, plainStep, Scope, covers, Held, Places, heldScope, matches, heldFor, Move, move, moves, orWalk, chipOutcome, flushPlace, chipStep, among}
 use Rattle.model.specs.reference.Runs.{last, next, checkerRun, isRefused, seen, told, plainRun, Moment, chipStart, chipNext, chipRun, chipSeen, Holds}
 use Rattle.model.specs.step.Machine.{After, stepped, started}
 use Rattle.model.specs.Invisible.{Session, begun, Accepted, checkerRunOf, toldOf, plainRunOf, chipStartOf, chipRunOf, Same, atEnd, plainEnd, alignedAccess, CouldDiffer, Exactly, Invisible, checker}
@@ -165,17 +165,17 @@ same = record { begins = same-begins; plain = same-plain; chip = same-chip }
 -- ── The second half ──
 
 -- a place that holds an entry, in the theory's words and in the reference's
-pub holds-within : (c p : ℕ) (e : Entry) (ps : Places) → Holds c p e ps → Within (held c p e) ps
+pub holds-within : (h : Held) (ps : Places) → Holds h ps → Within h ps
 unfolding Holds Within
-holds-within c p e [] y = y
-holds-within c p e (x ∷ ps) (inl q) = inl q
-holds-within c p e (x ∷ ps) (inr y) = inr (holds-within c p e ps y)
+holds-within h [] y = y
+holds-within h (x ∷ ps) (inl q) = inl q
+holds-within h (x ∷ ps) (inr y) = inr (holds-within h ps y)
 
-pub within-holds : (c p : ℕ) (e : Entry) (ps : Places) → Within (held c p e) ps → Holds c p e ps
+pub within-holds : (h : Held) (ps : Places) → Within h ps → Holds h ps
 unfolding Holds Within
-within-holds c p e [] y = y
-within-holds c p e (x ∷ ps) (inl q) = inl q
-within-holds c p e (x ∷ ps) (inr y) = inr (within-holds c p e ps y)
+within-holds h [] y = y
+within-holds h (x ∷ ps) (inl q) = inl q
+within-holds h (x ∷ ps) (inr y) = inr (within-holds h ps y)
 
 pub last-seen : (x : After) (xs : List After) (o : Option Result) → last (o, stateOf x) (map seen xs) .1 ≡ stateOf (last x xs)
 unfolding last seen
@@ -233,36 +233,44 @@ module _ (x : Session) (acc : Accepted checker x) (o : Operation) where
   unfolding walkOf
   walk-page e q = ap (λ s. outcome s (o .a)) (plain-end x acc) ∙ sym (outcome-page s₁ (o .a)) ∙ as-found (outcome s₁ (page * pageSize)) e q
 
+  -- what a chip of n places holds at the end
+  abbrev heldLast : ℕ → List Move → (ℕ → List Move) → Places
+  heldLast n first script = last (chipStartOf x (suc n) first) (chipRunOf checker x (suc n) first script) .held
+
   to-reference : (n : ℕ) → Can n → CouldDiffer checker x o
+  unfolding matches
   to-reference n y =
-      let b = and-both (eqb (y .tag .0) (s₁ .registers .context)) (eqb (y .tag .1) page) (y .serving) in
-      let under : Within (held (s₁ .registers .context) page (y .entryHeld)) (last (chipStartOf x (suc n) (y .first)) (chipRunOf checker x (suc n) (y .first) (y .after)) .held) =
-      subst (λ (h : Places). Within (held (s₁ .registers .context) page (y .entryHeld)) h) (end-held x n (y .first) (y .after))
-      (subst (λ (u : ℕ × ℕ). HoldsIn u (y .entryHeld) (heldAtEnd tables (tlbOf n) (fresh (x .image) (x .root)) (movesOf tables (tlbOf n) (fresh (x .image) (x .root)) (replicate (suc n) none) (y .first)) (toldOf checker x) (y .after)))
-      (λ i. (eqb-true (y .tag .0) (s₁ .registers .context) (b .0) i, eqb-true (y .tag .1) page (b .1) i)) (y .holds)) in
+      let h : Held = y .holds .thing in
       record {
         places = n;
         first = y .first;
         script = y .after;
-        entry = y .entryHeld;
-        held = subst (λ (s : State). Holds (s .registers .context) page (y .entryHeld) (last (chipStartOf x (suc n) (y .first)) (chipRunOf checker x (suc n) (y .first) (y .after)) .held))
-            (sym (plain-end x acc)) (within-holds (s₁ .registers .context) page (y .entryHeld) _ under);
-        other = λ q. y .differs (page-walk (y .entryHeld) q);
+        held = h;
+        holds = within-holds h (heldLast n (y .first) (y .after)) (subst (Within h) (end-held x n (y .first) (y .after)) (y .holds .inside));
+        matching = ap₂ (λ (u : Scope) k. covers u (plainEnd checker x .registers .context) && eqb k page) (y .holds .scope-is) (y .holds .page-is)
+            ∙ ap (λ (s : State). covers (y .tag .0) (s .registers .context) && eqb (y .tag .1) page) (plain-end x acc)
+            ∙ y .serving;
+        other = λ q. y .differs (page-walk (y .entryHeld) (q ∙ ap found (y .holds .entry-is)));
       }
 
   from-reference : CouldDiffer checker x o → (n : ℕ) × Can n
+  unfolding matches
   from-reference y = (
     y .places,
     record {
       first = y .first;
       after = y .script;
-      tag = (s₁ .registers .context, page);
-      entryHeld = y .entry;
-      holds = subst (λ (h : Places). Within (held (s₁ .registers .context) page (y .entry)) h) (sym (end-held x (y .places) (y .first) (y .script)))
-          (holds-within (s₁ .registers .context) page (y .entry) _
-          (subst (λ (s : State). Holds (s .registers .context) page (y .entry) (last (chipStartOf x (suc (y .places)) (y .first)) (chipRunOf checker x (suc (y .places)) (y .first) (y .script)) .held)) (plain-end x acc) (y .held)));
-      serving = ap₂ _&&_ (eq-eqb (s₁ .registers .context) (s₁ .registers .context) refl) (eq-eqb page page refl);
-      differs = λ q. y .other (walk-page (y .entry) q);
+      tag = (heldScope (y .held), y .held .page);
+      entryHeld = y .held .entry;
+      holds = record {
+        thing = y .held;
+        inside = subst (Within (y .held)) (sym (end-held x (y .places) (y .first) (y .script))) (holds-within (y .held) (heldLast (y .places) (y .first) (y .script)) (y .holds));
+        scope-is = refl;
+        page-is = refl;
+        entry-is = refl;
+      };
+      serving = ap (λ (s : State). covers (heldScope (y .held)) (s .registers .context) && eqb (y .held .page) page) (sym (plain-end x acc)) ∙ y .matching;
+      differs = λ q. y .other (walk-page (y .held .entry) q);
     },
   )
 

@@ -1,5 +1,5 @@
--- The whole track: noting and flushing leave in each word what the reference says of its context and page.
-use Prim.Native.Nat.{ℕ, suc, _+_, _*_, _/_, _%_, _≤_, _<_}
+-- The whole track: noting and flushing leave in each word what the reference says of its scope and page.
+use Prim.Native.Nat.{ℕ, suc, _+_, _*_, _-_, _/_, _%_, _≤_, _<_}
 use mathlib.Core.Path.{_≡_, refl, sym, ap, ap₂, _∙_}
 use mathlib.Core.Bool.{Bool, true, false, cond, _&&_}
 use mathlib.Core.List.{List, []}
@@ -7,24 +7,25 @@ use native.Mathlib.Omega.{arith}
 use lib.Dec.{eqb, ltb}
 use lib.ListN.{length, getD, set, length-set}
 use lib.Seq.{getD-set-same, getD-set-other}
-use borrow.Author.Tests.{eqb-true, eqb-false, lt-ltb, ltb-true}
+use borrow.Author.Tests.{eqb-true, eqb-false, eq-eqb, ne-eqb, lt-ltb, ltb-true}
 use Rattle.model.specs.Limits.{pageSize, rowSize}
-use Rattle.model.specs.reference.Rules.{walk, State, fresh, outcome, flushes, noted, notedIn, wordAfter, trackWord, contexts}
+use Rattle.model.specs.reference.Rules.{walk, State, fresh, outcome, Scope, own, global, covers, flushes, noted, notedIn, wordAfter, trackWord, contexts, rowOf, hasRow}
 use Rattle.model.specs.step.Walk.{walkPage}
 use Rattle.model.specs.step.Rows.{mapWords, inRow, eachRow}
 use Rattle.model.specs.step.Checks.{contextFits}
-use Rattle.model.specs.step.Track.{addOutcome, notePage, noteRow, noteTrack, emptyPage, emptyRow, flushAll, flushPage, flushContext, flushPageIn}
+use Rattle.model.specs.step.Track.{addOutcome, notePage, noteRow, lastRow, noteTrack, emptyPage, emptyRow, flushAll, flushPage, flushContext, flushPageIn}
 use Rattle.model.specs.Types.{Registers, Operation, Kind, Read, Write, Root, Asid, Mode, All, Addr, Ctx, AddrCtx}
 use Rattle.model.proofs.Walk.{translation, walk-same}
 use Rattle.model.proofs.Rows.{Acts, acts-words, length-inRow, word-inRow, length-eachRow, word-eachRow}
-use Rattle.model.proofs.Words.{walk-range, note-same}
+use Rattle.model.proofs.Words.{rowKind, walk-range, note-same, noted-elsewhere}
 
--- a page is noted as the reference notes its first address
-pub page-same : (m : List ℕ) (root page w : ℕ) → notePage m root page w ≡ noted (walk m root (page * pageSize)) w
+-- a page is noted in a row as the reference notes its first address, where the context uses the row
+pub page-same : (u : Scope) (c : ℕ) → covers u c ≡ true → (m : List ℕ) (root page w : ℕ) →
+    notePage m root (rowKind u) page w ≡ noted u c (walk m root (page * pageSize)) w
 unfolding notePage
-page-same m root page w =
-    note-same w (walkPage m root page) (walk-range m root page)
-    ∙ ap (λ x. noted x w) (ap (λ n. translation (walkPage m root n)) first ∙ walk-same m root (page * pageSize))
+page-same u c uses m root page w =
+    note-same u c w (walkPage m root page) (walk-range m root page) uses
+    ∙ ap (λ x. noted u c x w) (ap (λ n. translation (walkPage m root n)) first ∙ walk-same m root (page * pageSize))
   where
     first : page ≡ page * pageSize / pageSize
     first = omega arith
@@ -45,44 +46,130 @@ acts-page page = record {
     go row p h false e = getD-set-other row page p 0 0 (eqb-false p page e)
 
 -- the place of a word
-place : (t : List ℕ) (c p : ℕ) → trackWord t c p ≡ getD t (c * rowSize + p) 0
+place : (t : List ℕ) (u : Scope) (p : ℕ) → trackWord t u p ≡ getD t (rowOf t u * rowSize + p) 0
 unfolding trackWord
-place t c p = ap (λ n. getD t n 0) (let q : rowSize * c + p ≡ c * rowSize + p = omega arith in q)
+place t u p = ap (λ n. getD t n 0) (let q : rowSize * rowOf t u + p ≡ rowOf t u * rowSize + p = omega arith in q)
 
--- a context's row lies in the track
-module _ (t : List ℕ) (c : ℕ) (in-track : c < contexts t) where
-  row-fits : c * rowSize + rowSize ≤ length t
-  unfolding contexts
-  row-fits = omega arith
-
+-- the rows of contexts, and the global row
 rows-fit : (t : List ℕ) → length t / rowSize * rowSize ≤ length t
 rows-fit t = omega arith
 
--- ── One row changed, and each row changed ──
+row-fits : (t : List ℕ) (r : ℕ) → r < length t / rowSize → r * rowSize + rowSize ≤ length t
+row-fits t r h = omega arith
+
+module _ (t : List ℕ) (some-context : 0 < contexts t) where
+  global-in : contexts t < length t / rowSize
+  unfolding contexts
+  global-in = let h : 0 < length t / rowSize - 1 = unfold contexts in some-context in omega arith
+
+  own-in : (c : ℕ) → c < contexts t → c < length t / rowSize
+  own-in c h = let g = global-in in omega arith
+
+  row-in : (u : Scope) → hasRow t u ≡ true → rowOf t u < length t / rowSize
+  unfolding hasRow rowOf
+  row-in (own c) h = own-in c (ltb-true c (contexts t) h)
+  row-in global h = global-in
+
+same-rows : (t v : List ℕ) → length v ≡ length t → (u : Scope) → rowOf v u ≡ rowOf t u
+unfolding rowOf contexts
+same-rows t v e (own c) = refl
+same-rows t v e global = ap (λ n. n / rowSize - 1) e
+
+-- ── One row changed, two rows changed, and each row changed ──
 
 module _ {f : List ℕ → List ℕ} {g : ℕ → ℕ → ℕ} (acts : Acts rowSize f g) (t : List ℕ) where
-  one-row : (c : ℕ) → c < contexts t → (d p : ℕ) → p < rowSize →
-      trackWord (inRow rowSize c f t) d p ≡ cond (eqb d c) (g p (trackWord t d p)) (trackWord t d p)
-  one-row c h d p q = rw (place (inRow rowSize c f t) d p, place t d p) (word-inRow acts c t (row-fits t c h) d p q)
+  one-length : (r : ℕ) → r < length t / rowSize → length (inRow rowSize r f t) ≡ length t
+  one-length r h = length-inRow acts r t (row-fits t r h)
 
-  each-row : (d p : ℕ) → d < contexts t → p < rowSize → trackWord (eachRow rowSize (length t / rowSize) f t) d p ≡ g p (trackWord t d p)
-  unfolding contexts
-  each-row d p h q =
-      rw (place (eachRow rowSize (length t / rowSize) f t) d p, place t d p)
-      (word-eachRow acts t (length t / rowSize) (rows-fit t) d p q
-      ∙ ap (λ b. cond b (g p (getD t (d * rowSize + p) 0)) (getD t (d * rowSize + p) 0)) (lt-ltb d (length t / rowSize) h))
+  one-row : (r : ℕ) → r < length t / rowSize → (u : Scope) (p : ℕ) → p < rowSize →
+      trackWord (inRow rowSize r f t) u p ≡ cond (eqb (rowOf t u) r) (g p (trackWord t u p)) (trackWord t u p)
+  one-row r h u p q =
+      place (inRow rowSize r f t) u p
+      ∙ ap (λ n. getD (inRow rowSize r f t) (n * rowSize + p) 0) (same-rows t (inRow rowSize r f t) (one-length r h) u)
+      ∙ word-inRow acts r t (row-fits t r h) (rowOf t u) p q
+      ∙ ap (λ w. cond (eqb (rowOf t u) r) (g p w) w) (sym (place t u p))
 
--- noting: the words of the current context's row are noted, the others stay
-pub noted-word : (m : List ℕ) (r : Registers) (t : List ℕ) → r .context < contexts t → (c p : ℕ) → p < rowSize →
-    trackWord (noteTrack m (r .root) (r .context) t) c p ≡ notedIn (record { memory = m; registers = r }) c p (trackWord t c p)
-unfolding noteTrack notedIn outcome
-noted-word m r t h c p q =
-    one-row (acts-words rowSize (notePage m (r .root))) t (r .context) h c p q
-    ∙ ap (λ n. cond (eqb c (r .context)) n (trackWord t c p)) (page-same m (r .root) p (trackWord t c p))
+  each-length : length (eachRow rowSize (length t / rowSize) f t) ≡ length t
+  each-length = length-eachRow acts t (length t / rowSize) (rows-fit t)
+
+  each-row : 0 < contexts t → (u : Scope) (p : ℕ) → hasRow t u ≡ true → p < rowSize → trackWord (eachRow rowSize (length t / rowSize) f t) u p ≡ g p (trackWord t u p)
+  each-row k u p h q =
+      place (eachRow rowSize (length t / rowSize) f t) u p
+      ∙ ap (λ n. getD (eachRow rowSize (length t / rowSize) f t) (n * rowSize + p) 0) (same-rows t (eachRow rowSize (length t / rowSize) f t) each-length u)
+      ∙ word-eachRow acts t (length t / rowSize) (rows-fit t) (rowOf t u) p q
+      ∙ ap (λ b. cond b (g p (getD t (rowOf t u * rowSize + p) 0)) (getD t (rowOf t u * rowSize + p) 0)) (lt-ltb (rowOf t u) (length t / rowSize) (row-in t k u h))
+      ∙ ap (g p) (sym (place t u p))
+
+-- the row of a context changed, then the global row
+module _ {f f′ : List ℕ → List ℕ} {g g′ : ℕ → ℕ → ℕ} (acts : Acts rowSize f g) (acts′ : Acts rowSize f′ g′) (t : List ℕ) (c : ℕ) (in-track : c < contexts t) where
+  first : List ℕ
+  first = inRow rowSize c f t
+
+  second : List ℕ
+  second = inRow rowSize (lastRow (length t)) f′ first
+
+  has-one : 0 < contexts t
+  has-one = omega arith
+
+  first-length : length first ≡ length t
+  unfolding first
+  first-length = one-length acts t c (own-in t has-one c in-track)
+
+  last-in : lastRow (length t) < length first / rowSize
+  unfolding lastRow
+  last-in = rw first-length (unfold contexts in global-in t has-one)
+
+  pub both-length : length (inRow rowSize (lastRow (length t)) f′ (inRow rowSize c f t)) ≡ length t
+  unfolding first
+  both-length = one-length acts′ first (lastRow (length t)) last-in ∙ first-length
+
+  -- a word after the change of the first row, by its place
+  after-first : (u : Scope) (p : ℕ) → p < rowSize → trackWord first u p ≡ cond (eqb (rowOf t u) c) (g p (trackWord t u p)) (trackWord t u p)
+  unfolding first
+  after-first u p q = one-row acts t c (own-in t has-one c in-track) u p q
+
+  after-second : (u : Scope) (p : ℕ) → p < rowSize →
+      trackWord second u p ≡ cond (eqb (rowOf t u) (lastRow (length t))) (g′ p (trackWord first u p)) (trackWord first u p)
+  unfolding second
+  after-second u p q =
+      one-row acts′ first (lastRow (length t)) last-in u p q
+      ∙ ap (λ n. cond (eqb n (lastRow (length t))) (g′ p (trackWord first u p)) (trackWord first u p)) (same-rows t first first-length u)
+
+  -- the words of the context's row, those of other contexts' rows, and those of the global row
+  pub both-own : (d p : ℕ) → d < contexts t → p < rowSize →
+      trackWord (inRow rowSize (lastRow (length t)) f′ (inRow rowSize c f t)) (own d) p ≡ cond (eqb d c) (g p (trackWord t (own d) p)) (trackWord t (own d) p)
+  unfolding first second rowOf
+  both-own d p h q =
+      after-second (own d) p q
+      ∙ ap (λ b. cond b (g′ p (trackWord first (own d) p)) (trackWord first (own d) p)) (ne-eqb d (lastRow (length t)) (unfold lastRow contexts in (let z : d < length t / rowSize - 1 = unfold contexts in h in omega arith)))
+      ∙ after-first (own d) p q
+
+  pub both-global : (p : ℕ) → p < rowSize → trackWord (inRow rowSize (lastRow (length t)) f′ (inRow rowSize c f t)) global p ≡ g′ p (trackWord t global p)
+  unfolding first second rowOf
+  both-global p q =
+      after-second global p q
+      ∙ ap (λ b. cond b (g′ p (trackWord first global p)) (trackWord first global p)) (eq-eqb (contexts t) (lastRow (length t)) (unfold contexts lastRow in refl))
+      ∙ ap (g′ p) (after-first global p q ∙ ap (λ b. cond b (g p (trackWord t global p)) (trackWord t global p)) (ne-eqb (contexts t) c (omega arith)))
+
+-- noting: the words of the current context's row and those of the global row are noted, the others stay
+pub noted-word : (m : List ℕ) (r : Registers) (t : List ℕ) → r .context < contexts t → (u : Scope) (p : ℕ) → hasRow t u ≡ true → p < rowSize →
+    trackWord (noteTrack m (r .root) (r .context) t) u p ≡ notedIn (record { memory = m; registers = r }) u p (trackWord t u p)
+unfolding noteTrack notedIn outcome hasRow
+noted-word m r t h (own d) p i q =
+    both-own (acts-words rowSize (notePage m (r .root) 0)) (acts-words rowSize (notePage m (r .root) 1)) t (r .context) h d p (ltb-true d (contexts t) i) q
+    ∙ by (eqb d (r .context)) refl
+  where
+    by : (b : Bool) → eqb d (r .context) ≡ b →
+        cond b (notePage m (r .root) 0 p (trackWord t (own d) p)) (trackWord t (own d) p) ≡ noted (own d) (r .context) (walk m (r .root) (p * pageSize)) (trackWord t (own d) p)
+    by true e = page-same (own d) (r .context) (unfold covers in e) m (r .root) p (trackWord t (own d) p)
+    by false e = sym (noted-elsewhere (own d) (r .context) (trackWord t (own d) p) _ (unfold covers in e))
+noted-word m r t h global p i q =
+    both-global (acts-words rowSize (notePage m (r .root) 0)) (acts-words rowSize (notePage m (r .root) 1)) t (r .context) h p q
+    ∙ page-same global (r .context) (unfold covers in refl) m (r .root) p (trackWord t global p)
 
 pub noted-length : (m : List ℕ) (r : Registers) (t : List ℕ) → r .context < contexts t → length (noteTrack m (r .root) (r .context) t) ≡ length t
 unfolding noteTrack
-noted-length m r t h = length-inRow (acts-words rowSize (notePage m (r .root))) (r .context) t (row-fits t (r .context) h)
+noted-length m r t h = both-length (acts-words rowSize (notePage m (r .root) 0)) (acts-words rowSize (notePage m (r .root) 1)) t (r .context) h
 
 -- ── Flushes ──
 
@@ -111,21 +198,43 @@ page-in true false w = refl
 page-in false true w = refl
 page-in false false w = refl
 
+and-true : (x : Bool) → x ≡ (x && true)
+and-true true = refl
+and-true false = refl
+
+-- a flush of a context, by scopes
+context-flushed : (t : List ℕ) (o : Operation) → o .a < contexts t → (u : Scope) (p : ℕ) → p < rowSize →
+    trackWord (flushContext (o .a) t) u p ≡ cond (flushes Ctx o u p) 0 (trackWord t u p)
+unfolding flushContext flushes rowOf
+context-flushed t o f (own d) p q = one-row acts-clear t (o .a) (own-in t (omega arith) (o .a) f) (own d) p q
+context-flushed t o f global p q =
+    one-row acts-clear t (o .a) (own-in t (omega arith) (o .a) f) global p q
+    ∙ ap (λ b. cond b 0 (trackWord t global p)) (ne-eqb (contexts t) (o .a) (omega arith))
+
+-- a flush of a page in a context, by scopes
+page-flushed : (t : List ℕ) (o : Operation) → o .b < contexts t → (u : Scope) (p : ℕ) → hasRow t u ≡ true → p < rowSize →
+    trackWord (flushPageIn (o .b) (o .a / pageSize) t) u p ≡ cond (flushes AddrCtx o u p) 0 (trackWord t u p)
+unfolding flushPageIn flushes covers hasRow emptied
+page-flushed t o f (own d) p i q =
+    both-own (acts-page (o .a / pageSize)) (acts-page (o .a / pageSize)) t (o .b) f d p (ltb-true d (contexts t) i) q
+    ∙ page-in (eqb d (o .b)) (eqb p (o .a / pageSize)) (trackWord t (own d) p)
+page-flushed t o f global p i q =
+    both-global (acts-page (o .a / pageSize)) (acts-page (o .a / pageSize)) t (o .b) f p q
+    ∙ ap (λ b. cond b 0 (trackWord t global p)) (and-true (eqb p (o .a / pageSize)))
+
 -- a flush empties the words that it names, and no others
-pub flushed-word : (k : Kind) (o : Operation) (t : List ℕ) → contextFits k (o .a) (o .b) (contexts t) ≡ true → (c p : ℕ) → c < contexts t → p < rowSize →
-    trackWord (flushOf k o t) c p ≡ cond (flushes k o c p) 0 (trackWord t c p)
-unfolding flushOf flushes flushAll flushPage flushContext flushPageIn contextFits emptied
-flushed-word Read o t f c p h q = refl
-flushed-word Write o t f c p h q = refl
-flushed-word Root o t f c p h q = refl
-flushed-word Asid o t f c p h q = refl
-flushed-word Mode o t f c p h q = refl
-flushed-word All o t f c p h q = each-row acts-clear t c p h q
-flushed-word Addr o t f c p h q = each-row (acts-page (o .a / pageSize)) t c p h q
-flushed-word Ctx o t f c p h q = one-row acts-clear t (o .a) (ltb-true (o .a) (contexts t) f) c p q
-flushed-word AddrCtx o t f c p h q =
-    one-row (acts-page (o .a / pageSize)) t (o .b) (ltb-true (o .b) (contexts t) f) c p q
-    ∙ page-in (eqb c (o .b)) (eqb p (o .a / pageSize)) (trackWord t c p)
+pub flushed-word : (k : Kind) (o : Operation) (t : List ℕ) → 0 < contexts t → contextFits k (o .a) (o .b) (contexts t) ≡ true → (u : Scope) (p : ℕ) → hasRow t u ≡ true → p < rowSize →
+    trackWord (flushOf k o t) u p ≡ cond (flushes k o u p) 0 (trackWord t u p)
+unfolding flushOf flushes flushAll flushPage contextFits emptied
+flushed-word Read o t k f u p h q = refl
+flushed-word Write o t k f u p h q = refl
+flushed-word Root o t k f u p h q = refl
+flushed-word Asid o t k f u p h q = refl
+flushed-word Mode o t k f u p h q = refl
+flushed-word All o t k f u p h q = each-row acts-clear t k u p h q
+flushed-word Addr o t k f u p h q = each-row (acts-page (o .a / pageSize)) t k u p h q
+flushed-word Ctx o t k f u p h q = context-flushed t o (ltb-true (o .a) (contexts t) f) u p q
+flushed-word AddrCtx o t k f u p h q = page-flushed t o (ltb-true (o .b) (contexts t) f) u p h q
 
 pub flushed-length : (k : Kind) (o : Operation) (t : List ℕ) → contextFits k (o .a) (o .b) (contexts t) ≡ true → length (flushOf k o t) ≡ length t
 unfolding flushOf flushAll flushPage flushContext flushPageIn contextFits
@@ -134,19 +243,23 @@ flushed-length Write o t f = refl
 flushed-length Root o t f = refl
 flushed-length Asid o t f = refl
 flushed-length Mode o t f = refl
-flushed-length All o t f = length-eachRow acts-clear t (length t / rowSize) (rows-fit t)
-flushed-length Addr o t f = length-eachRow (acts-page (o .a / pageSize)) t (length t / rowSize) (rows-fit t)
-flushed-length Ctx o t f = length-inRow acts-clear (o .a) t (row-fits t (o .a) (ltb-true (o .a) (contexts t) f))
-flushed-length AddrCtx o t f = length-inRow (acts-page (o .a / pageSize)) (o .b) t (row-fits t (o .b) (ltb-true (o .b) (contexts t) f))
+flushed-length All o t f = each-length acts-clear t
+flushed-length Addr o t f = each-length (acts-page (o .a / pageSize)) t
+flushed-length Ctx o t f = let h = ltb-true (o .a) (contexts t) f in one-length acts-clear t (o .a) (own-in t (omega arith) (o .a) h)
+flushed-length AddrCtx o t f = both-length (acts-page (o .a / pageSize)) (acts-page (o .a / pageSize)) t (o .b) (ltb-true (o .b) (contexts t) f)
 
 -- flushing, then noting with the state left
 pub word-after : (k : Kind) (o : Operation) (m : List ℕ) (r : Registers) (t : List ℕ) →
-    o .kind ≡ k → contextFits k (o .a) (o .b) (contexts t) ≡ true → r .context < contexts t → (c p : ℕ) → c < contexts t → p < rowSize →
-    trackWord (noteTrack m (r .root) (r .context) (flushOf k o t)) c p ≡ wordAfter o (record { memory = m; registers = r }) c p (trackWord t c p)
+    o .kind ≡ k → contextFits k (o .a) (o .b) (contexts t) ≡ true → r .context < contexts t → (u : Scope) (p : ℕ) → hasRow t u ≡ true → p < rowSize →
+    trackWord (noteTrack m (r .root) (r .context) (flushOf k o t)) u p ≡ wordAfter o (record { memory = m; registers = r }) u p (trackWord t u p)
 unfolding wordAfter
-word-after k o m r t e f h c p d q =
-    noted-word m r (flushOf k o t) (rw (same-contexts) h) c p q
-    ∙ ap (notedIn (record { memory = m; registers = r }) c p) (flushed-word k o t f c p d q ∙ ap (λ x. cond (flushes x o c p) 0 (trackWord t c p)) (sym e))
+word-after k o m r t e f h u p d q =
+    noted-word m r (flushOf k o t) (rw same-contexts h) u p (same-has u d) q
+    ∙ ap (notedIn (record { memory = m; registers = r }) u p) (flushed-word k o t (omega arith) f u p d q ∙ ap (λ x. cond (flushes x o u p) 0 (trackWord t u p)) (sym e))
   where
     same-contexts : contexts (flushOf k o t) ≡ contexts t
-    same-contexts = unfold contexts in ap (λ n. n / rowSize) (flushed-length k o t f)
+    same-contexts = unfold contexts in ap (λ n. n / rowSize - 1) (flushed-length k o t f)
+
+    same-has : (u : Scope) → hasRow t u ≡ true → hasRow (flushOf k o t) u ≡ true
+    same-has (own c) i = unfold hasRow in (ap (ltb c) same-contexts ∙ (unfold hasRow in i))
+    same-has global i = unfold hasRow in refl

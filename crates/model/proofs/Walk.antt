@@ -1,13 +1,14 @@
 -- The step's walk by page is the reference's walk by address.
-use Prim.Native.Nat.{ℕ, suc, _+_, _*_, _-_, _/_, _%_, _^_}
+use Prim.Native.Nat.{ℕ, suc, _+_, _*_, _-_, _/_, _%_, _^_, _<_}
 use mathlib.Core.Path.{_≡_, refl, sym, ap, _∙_}
 use mathlib.Core.Bool.{Bool, true, false, cond, _&&_}
 use mathlib.Core.List.{List}
 use native.Mathlib.Omega.{arith}
 use lib.Dec.{eqb}
+use borrow.Author.Tests.{eqb-true, eqb-false}
 use Rattle.model.specs.Limits.{pageSize, sectionSize}
 use Rattle.model.specs.Numbers.{faultNumber}
-use Rattle.model.specs.reference.Rules.{Translation, found, failed, inMemory, value, bits, descriptor, section, largePage, smallPage, pageWord, tableWord, walk}
+use Rattle.model.specs.reference.Rules.{Translation, found, failed, inMemory, value, bits, descriptor, globalBy, section, largePage, smallPage, pageWord, tableWord, walk}
 use Rattle.model.specs.step.Memory.{within, numberAt, loadAt}
 use Rattle.model.specs.step.Walk.{kindOf, superBit, tableOf, sectionEntry, largeEntry, smallEntry, descriptorAt, firstOf, firstFrom, firstAt, secondOf, secondFrom, secondAt, walkFrom, walkPage}
 use Rattle.model.specs.Types.{Entry, FirstUnmapped, SecondUnmapped, Four, Loaded, Value, Outside, FirstLevel, Failing, Table, Section, Outcome, Mapped, Failed}
@@ -19,18 +20,30 @@ abbrev pub translation : Outcome → Translation
 translation (Mapped e) = found e
 translation (Failed f) = failed (faultNumber f)
 
+-- an nG bit
+global-same : (x : ℕ) → x < 2 → 1 - x ≡ globalBy x
+unfolding globalBy
+global-same x h = go (eqb x 0) refl
+  where
+    go : (b : Bool) → eqb x 0 ≡ b → 1 - x ≡ cond b 1 0
+    go true e = let q = eqb-true x 0 e in omega arith
+    go false e = let q = eqb-false x 0 e in omega arith
+
 -- the entries of the three kinds of mapping
+with-global : (e : Entry) (g : ℕ) → e .global ≡ g → e ≡ record { frame = e .frame; ap = e .ap; section = e .section; global = g }
+with-global e g q = λ i. record { frame = e .frame; ap = e .ap; section = e .section; global = q i }
+
 section-same : (a w : ℕ) → sectionEntry w (a / pageSize) ≡ section a w
 unfolding section bits
-section-same a w = refl
+section-same a w = with-global (sectionEntry w (a / pageSize)) _ (global-same (w / 131072 % 2) (omega arith))
 
 large-same : (a w : ℕ) → largeEntry w (a / pageSize) ≡ largePage a w
 unfolding largePage bits
-large-same a w = refl
+large-same a w = with-global (largeEntry w (a / pageSize)) _ (global-same (w / 2048 % 2) (omega arith))
 
 small-same : (w : ℕ) → smallEntry w ≡ smallPage w
 unfolding smallPage bits
-small-same w = refl
+small-same w = with-global (smallEntry w) _ (global-same (w / 2048 % 2) (omega arith))
 
 kind-same : (w : ℕ) → kindOf w ≡ bits 1 0 w
 unfolding bits

@@ -7,7 +7,7 @@ use mathlib.Core.List.{List}
 use lib.ListN.{length}
 use Rattle.model.specs.Limits.{rowSize}
 use Rattle.model.specs.Numbers.{Result, ok, refused, shown}
-use Rattle.model.specs.reference.Rules.{Translation, State, fresh, carriedOut, flushes, several, kept, wordOf, trackWord, stale, notedIn, wordAfter, contexts, conditions, startConditions, walkConditions, Given, walk, translationNumber, refusedWalk}
+use Rattle.model.specs.reference.Rules.{Translation, State, Scope, covers, fresh, carriedOut, flushes, several, kept, wordOf, trackWord, stale, notedIn, wordAfter, hasRow, suits, conditions, startConditions, walkConditions, Given, walk, translationNumber, refusedWalk}
 use Rattle.model.specs.step.Machine.{After, stepped, started}
 use Rattle.model.specs.step.WalkAnswer.{walkAnswer}
 use Rattle.model.specs.Types.{Registers, Operation, Entry}
@@ -54,30 +54,31 @@ pub record Total : Type 0 where
 pub record Faithful : Type 0 where
   -- an operation gives the plain machine's answer, and leaves its memory and registers
   pub plain : (x : Call) → ((r : ℕ) → Given r (conditionsOf x) → ⊥) → visible (after x) ≡ carriedOut (x .operation) (before x)
-  -- it leaves in each word of the track what is remembered of its context and page
-  pub words : (x : Call) → ((r : ℕ) → Given r (conditionsOf x) → ⊥) → (c p : ℕ) → c < contexts (x .track) → p < rowSize →
-      trackWord (after x .track) c p ≡ wordAfter (x .operation) (carriedOut (x .operation) (before x) .1) c p (trackWord (x .track) c p)
+  -- it leaves in each word of the track, in the rows of its contexts and in the global row, what is remembered of its scope and page
+  pub words : (x : Call) → ((r : ℕ) → Given r (conditionsOf x) → ⊥) → (u : Scope) (p : ℕ) → hasRow (x .track) u ≡ true → p < rowSize →
+      trackWord (after x .track) u p ≡ wordAfter (x .operation) (carriedOut (x .operation) (before x) .1) u p (trackWord (x .track) u p)
   pub trackLength : (x : Call) → length (after x .track) ≡ length (x .track)
   -- start gives the plain machine's first state, and a track that remembers what the tables map now in context 0
   pub start : (m t : List ℕ) (root : ℕ) → ((r : ℕ) → Given r (startConditions m t root) → ⊥) → visible (started m t root) ≡ (ok 0, fresh m root)
-  pub startWords : (m t : List ℕ) (root : ℕ) → ((r : ℕ) → Given r (startConditions m t root) → ⊥) → (c p : ℕ) → c < contexts t → p < rowSize →
-      trackWord (started m t root .track) c p ≡ notedIn (fresh m root) c p 0
+  pub startWords : (m t : List ℕ) (root : ℕ) → ((r : ℕ) → Given r (startConditions m t root) → ⊥) → (u : Scope) (p : ℕ) → hasRow t u ≡ true → p < rowSize →
+      trackWord (started m t root .track) u p ≡ notedIn (fresh m root) u p 0
   pub startTrackLength : (m t : List ℕ) (root : ℕ) → length (started m t root .track) ≡ length t
 
 -- Words that no start and no operation leaves, but that may be lent.
 pub record OddWords : Type 0 where
-  -- a word that is neither 0 nor the word of an entry counts as several
-  pub counts : (w : ℕ) → (w ≡ 0 → ⊥) → ((e : Entry) → e .frame < 0x100000 → e .ap < 8 → e .section < 2 → w ≡ wordOf e → ⊥) → kept w ≡ several
+  -- a word that is neither 0 nor the word of an entry that suits its row counts as several
+  pub counts : (u : Scope) (w : ℕ) → (w ≡ 0 → ⊥) →
+      ((e : Entry) → e .frame < 0x100000 → e .ap < 8 → e .section < 2 → e .global < 2 → suits u e ≡ true → w ≡ wordOf e → ⊥) → kept u w ≡ several
   -- a word that counts as several stays as found under noting
-  pub stays : (x : Call) → ((r : ℕ) → Given r (conditionsOf x) → ⊥) → (c p : ℕ) → c < contexts (x .track) → p < rowSize →
-      kept (trackWord (x .track) c p) ≡ several → flushes (x .operation .kind) (x .operation) c p ≡ false →
-      trackWord (after x .track) c p ≡ trackWord (x .track) c p
-  -- its page is stale, whatever the tables say
-  pub isStale : (t : List ℕ) (c p : ℕ) (y : Translation) → kept (trackWord t c p) ≡ several → stale t c p y ≡ true
+  pub stays : (x : Call) → ((r : ℕ) → Given r (conditionsOf x) → ⊥) → (u : Scope) (p : ℕ) → hasRow (x .track) u ≡ true → p < rowSize →
+      kept u (trackWord (x .track) u p) ≡ several → flushes (x .operation .kind) (x .operation) u p ≡ false →
+      trackWord (after x .track) u p ≡ trackWord (x .track) u p
+  -- its page is stale, whatever the tables say: in its context, or in every context where it stands in the global row
+  pub isStale : (t : List ℕ) (u : Scope) (c p : ℕ) (y : Translation) → covers u c ≡ true → kept u (trackWord t u p) ≡ several → stale t c p y ≡ true
   -- a flush that names it empties it, and noting follows as for any empty set
-  pub goes : (x : Call) → ((r : ℕ) → Given r (conditionsOf x) → ⊥) → (c p : ℕ) → c < contexts (x .track) → p < rowSize →
-      flushes (x .operation .kind) (x .operation) c p ≡ true →
-      trackWord (after x .track) c p ≡ notedIn (carriedOut (x .operation) (before x) .1) c p 0
+  pub goes : (x : Call) → ((r : ℕ) → Given r (conditionsOf x) → ⊥) → (u : Scope) (p : ℕ) → hasRow (x .track) u ≡ true → p < rowSize →
+      flushes (x .operation .kind) (x .operation) u p ≡ true →
+      trackWord (after x .track) u p ≡ notedIn (carriedOut (x .operation) (before x) .1) u p 0
 
 -- The walk of one address of an image, as one number.
 pub record SingleWalk : Type 0 where

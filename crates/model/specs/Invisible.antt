@@ -3,13 +3,13 @@ use Prim.Native.Nat.{ℕ, suc, _*_, _/_, _<_}
 use mathlib.Core.Path.{_≡_}
 use mathlib.Core.Logic.{_↔_}
 use mathlib.Core.Bool.{Bool, true, false, _&&_, _||_}
-use mathlib.Core.List.{List, [], _∷_, map}
+use mathlib.Core.List.{List, [], _∷_, _++_, map}
 use mathlib.Core.Option.{Option, none, some}
 use lib.Dec.{eqb}
 use lib.ListN.{length, getD}
 use Rattle.model.specs.Limits.{pageSize, rowSize}
-use Rattle.model.specs.Numbers.{Result, fault, refused, shown}
-use Rattle.model.specs.reference.Rules.{Translation, found, failed, State, fresh, effect, outcome, aligned, among, Held, Places, heldFor, Move, drop, load, move, chipOutcome}
+use Rattle.model.specs.Numbers.{Result, ok, fault, refused, shown}
+use Rattle.model.specs.reference.Rules.{Translation, found, failed, State, fresh, effect, outcome, aligned, among, Scope, global, Held, Places, heldScope, matches, Move, drop, load, move, chipOutcome}
 use Rattle.model.specs.reference.Runs.{last, Checker, next, checkerRun, isRefused, seen, told, plainRun, Moment, chipStart, chipRun, chipSeen, Holds}
 use Rattle.model.specs.step.Machine.{After, started, stepped}
 use Rattle.model.specs.Types.{Operation, Read, Write, Entry}
@@ -67,15 +67,16 @@ module _ (m : Checker) where
   abbrev pub plainEnd : Session → State
   plainEnd x = last (none, fresh (x .image) (x .root)) (plainRunOf x) .1
 
-  -- some TLB could then hold, for the page of o in the current context, an entry other than the present outcome
+  -- some TLB could then hold an entry that matches the page of o in the current context, whichever context it was loaded in, other
+  -- than the present outcome
   pub record CouldDiffer (x : Session) (o : Operation) : Type 0 where
     pub places : ℕ
     pub first : List Move
     pub script : ℕ → List Move
-    pub entry : Entry
-    pub held : Holds (plainEnd x .registers .context) (o .a / pageSize) entry
-        (last (chipStartOf x (suc places) first) (chipRunOf x (suc places) first script) .held)
-    pub other : outcome (plainEnd x) (o .a) ≡ found entry → ⊥
+    pub held : Held
+    pub holds : Holds held (last (chipStartOf x (suc places) first) (chipRunOf x (suc places) first script) .held)
+    pub matching : matches held (plainEnd x .registers .context) (o .a / pageSize) ≡ true
+    pub other : outcome (plainEnd x) (o .a) ≡ found (held .entry) → ⊥
 
   -- The second half: after such a list, an aligned access that no other number turns back is refused as stale exactly when some such
   -- TLB could then hold for its page and context an entry other than the tables' present outcome.
@@ -96,21 +97,29 @@ checker = record { start = started; step = stepped }
 abbrev pub heldBy : ℕ → State → List (Operation × Bool) → List Move → (ℕ → List Move) → Places
 heldBy n s xs first script = last (chipStart n s first) (chipRun (chipStart n s first) xs script) .held
 
+-- the entry of a page, loaded in the current context
+abbrev pub loadedNow : State → ℕ → Entry → Held
+loadedNow s page e = record { context = s .registers .context; page = page; entry = e }
+
 -- The chip and the operations that the two halves speak of are those of the rules.
 pub record Pinned : Type 0 where
-  -- an entry held for the page of an address in the current context is what the address is translated by
-  pub heldUsed : (n : ℕ) (s : State) (xs : List (Operation × Bool)) (first : List Move) (script : ℕ → List Move) (now : State) (a : ℕ) (e : Entry) →
-      Holds (now .registers .context) (a / pageSize) e (heldBy n s xs first script) → chipOutcome now (heldBy n s xs first script) a ≡ found e
-  -- a page of the window that the tables map, for which nothing is held, can be loaded into a free place
+  -- what is held and matches the page of an address in the current context is what the address is translated by
+  pub heldUsed : (n : ℕ) (s : State) (xs : List (Operation × Bool)) (first : List Move) (script : ℕ → List Move) (now : State) (a : ℕ) (h : Held) →
+      Holds h (heldBy n s xs first script) → matches h (now .registers .context) (a / pageSize) ≡ true →
+      chipOutcome now (heldBy n s xs first script) a ≡ found (h .entry)
+  -- a page of the window that the tables map can be loaded into a free place, unless something held matches, in some context, a page that the
+  -- new entry would match there too
   pub canLoad : (s : State) (ps : Places) (i page : ℕ) (e : Entry) → i < length ps → getD ps i none ≡ none → page < rowSize →
-      outcome s (page * pageSize) ≡ found e → heldFor (s .registers .context) page ps ≡ none → Holds (s .registers .context) page e (move s ps (load i page))
+      outcome s (page * pageSize) ≡ found e →
+      ((h : Held) (c p : ℕ) → Holds h ps → matches h c p ≡ true → matches (loadedNow s page e) c p ≡ true → ⊥) →
+      Holds (loadedNow s page e) (move s ps (load i page))
   -- a drop empties its place and no other
   pub drops : (s : State) (ps : Places) (i : ℕ) → getD (move s ps (drop i)) i none ≡ none
   pub dropsOnly : (s : State) (ps : Places) (i j : ℕ) → (j ≡ i → ⊥) → getD (move s ps (drop i)) j none ≡ getD ps j none
-  -- never two places for one page in one context, and never more places than n
-  pub once : (n : ℕ) (s : State) (xs : List (Operation × Bool)) (first : List Move) (script : ℕ → List Move) (i j : ℕ) (h k : Held) →
+  -- never two places that match one page in one context, whichever it is, and never more places than n
+  pub once : (n : ℕ) (s : State) (xs : List (Operation × Bool)) (first : List Move) (script : ℕ → List Move) (i j : ℕ) (h k : Held) (c p : ℕ) →
       getD (heldBy n s xs first script) i none ≡ some h → getD (heldBy n s xs first script) j none ≡ some k →
-      h .context ≡ k .context → h .page ≡ k .page → i ≡ j
+      matches h c p ≡ true → matches k c p ≡ true → i ≡ j
   pub size : (n : ℕ) (s : State) (xs : List (Operation × Bool)) (first : List Move) (script : ℕ → List Move) → length (heldBy n s xs first script) ≡ n
   -- an access uses the translation of its own address and no other, and of an address that translates alike in its whole page
   pub ownPage : (o : Operation) (s : State) (f g : ℕ → Translation) → f (o .a) ≡ g (o .a) → effect (o .kind) o s f ≡ effect (o .kind) o s g
@@ -123,3 +132,38 @@ pub record Pinned : Type 0 where
       (record { memory = atEnd checker x .memory; registers = atEnd checker x .registers }) ≡ plainEnd checker x
   pub chipEnds : (x : Session) → Accepted checker x → (n : ℕ) (first : List Move) (script : ℕ → List Move) →
       last (chipStartOf x (suc n) first) (chipRunOf checker x (suc n) first script) .state ≡ plainEnd checker x
+
+-- operations told as carried out, each of them
+abbrev pub noneRefused : List Operation → List (Operation × Bool)
+noneRefused os = map (λ o. (o, false)) os
+
+-- what the plain machine and a chip have come to after these
+abbrev pub plainLast : List ℕ → ℕ → List Operation → Option Result × State
+plainLast image root os = last (none, fresh image root) (plainRun (fresh image root) (noneRefused os))
+
+abbrev pub chipLast : List ℕ → ℕ → List Operation → ℕ → List Move → (ℕ → List Move) → Moment
+chipLast image root os n first script =
+    last (chipStart n (fresh image root) first) (chipRun (chipStart n (fresh image root) first) (noneRefused os) script)
+
+-- A chip can use under one context a global entry that was loaded under another: a run, told that nothing was refused, in which the tables
+-- no longer map the page, the chip answers `ok` through the entry, and the plain machine faults.
+pub record UsedAcross : Type 0 where
+  pub image : List ℕ
+  pub root : ℕ
+  pub before : List Operation
+  pub access : Operation
+  pub places : ℕ
+  pub first : List Move
+  pub script : ℕ → List Move
+  pub held : Held
+  pub value : ℕ
+  pub number : ℕ
+  -- what the chip holds before the access is global, was loaded under another context, and matches the page of the access
+  pub holds : Holds held (heldBy places (fresh image root) (noneRefused before) first script)
+  pub shared : heldScope held ≡ global
+  pub elsewhere : held .context ≡ plainLast image root before .1 .registers .context → ⊥
+  pub matching : matches held (plainLast image root before .1 .registers .context) (access .a / pageSize) ≡ true
+  pub unmapped : outcome (plainLast image root before .1) (access .a) ≡ failed number
+  -- the last answers
+  pub chipAnswers : chipLast image root (before ++ access ∷ []) places first script .answer ≡ some (ok value)
+  pub plainFaults : plainLast image root (before ++ access ∷ []) .0 ≡ some (fault number)

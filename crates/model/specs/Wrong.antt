@@ -6,7 +6,7 @@ use mathlib.Core.List.{List, [], map}
 use lib.ListN.{length}
 use Rattle.model.specs.Limits.{pageSize, rowSize}
 use Rattle.model.specs.Numbers.{refused, shown}
-use Rattle.model.specs.reference.Rules.{failed, fresh, outcome, Move, trackWord, conditions, startConditions, refuses16, Given}
+use Rattle.model.specs.reference.Rules.{failed, fresh, outcome, own, global, Move, trackWord, conditions, startConditions, refuses16, Given}
 use Rattle.model.specs.reference.Runs.{Checker, next, seen, chipSeen}
 use Rattle.model.specs.Invisible.{Session, begun, Accepted, checkerRunOf, plainRunOf, chipRunOf, atEnd, alignedAccess, CouldDiffer}
 use Rattle.model.specs.Types.{Registers, Operation, Root}
@@ -67,22 +67,22 @@ abbrev pub NeverStale : Checker → Type 0
 NeverStale m = (o : Operation) (g : Registers) (i t : List ℕ) → shown (m .step o g i t .answer) ≡ refused 16 → ⊥
 
 -- It goes by the track: it says 16 only where the track that it is lent makes the page stale, and its accepted start returns what the
--- rules say and leaves empty, in context 0, the word of every page that the tables do not map.
+-- rules say and leaves empty, in context 0 and in the global row, the word of every page that the tables do not map.
 pub record GoesByTrack (m : Checker) : Type 0 where
   pub says16 : (o : Operation) (g : Registers) (i t : List ℕ) → shown (m .step o g i t .answer) ≡ refused 16 → refuses16 o g i t ≡ true
   pub begins : SameBegins m
   pub unmapped : (x : Session) → Accepted m x → (p n : ℕ) → p < rowSize → outcome (fresh (x .image) (x .root)) (p * pageSize) ≡ failed n →
-      trackWord (begun m x .track) 0 p ≡ 0
+      (trackWord (begun m x .track) (own 0) p ≡ 0) × (trackWord (begun m x .track) global p ≡ 0)
 
--- two tracks that differ at most in the row of one context
+-- two tracks that differ at most in the row of one context and in the global row
 pub record AlikeBut (context : ℕ) (t u : List ℕ) : Type 0 where
   pub lengths : length t ≡ length u
-  pub others : (c p : ℕ) → (c ≡ context → ⊥) → p < rowSize → trackWord t c p ≡ trackWord u c p
+  pub others : (c p : ℕ) → (c ≡ context → ⊥) → p < rowSize → trackWord t (own c) p ≡ trackWord u (own c) p
 
--- It looks for stale entries in the rows of other contexts alone, and leaves these rows as the rules do: empty after start, and as
--- they were after an operation that flushes nothing and stays in its context.
+-- It looks for stale entries in the rows of other contexts alone, not in the global row either, and leaves the rows of contexts as the
+-- rules do: empty after start, and as they were after an operation that flushes nothing and stays in its context.
 pub record LooksElsewhere (m : Checker) : Type 0 where
   pub blind : (o : Operation) (g : Registers) (i t u : List ℕ) → AlikeBut (g .context) t u → m .step o g i t .answer ≡ m .step o g i u .answer
-  pub startOthers : (i t : List ℕ) (root c p : ℕ) → (c ≡ 0 → ⊥) → p < rowSize → trackWord (m .start i t root .track) c p ≡ 0
+  pub startOthers : (i t : List ℕ) (root c p : ℕ) → (c ≡ 0 → ⊥) → p < rowSize → trackWord (m .start i t root .track) (own c) p ≡ 0
   pub rootOthers : (a : ℕ) (g : Registers) (i t : List ℕ) (c p : ℕ) → (c ≡ g .context → ⊥) → p < rowSize →
-      trackWord (m .step (record { kind = Root; a = a; b = 0; c = 0 }) g i t .track) c p ≡ trackWord t c p
+      trackWord (m .step (record { kind = Root; a = a; b = 0; c = 0 }) g i t .track) (own c) p ≡ trackWord t (own c) p

@@ -29,11 +29,13 @@ pub struct Operation {
     pub c: u32,
 }
 
-// What a page maps to: the number of its 4 KiB frame, its access permissions AP[2:0], and 1 where a section maps it, else 0.
+// What a page maps to: the number of its 4 KiB frame, its access permissions AP[2:0], 1 where a section maps it, else 0, and 1
+// where it is global, so that every context may use it, else 0.
 pub struct Entry {
     pub frame: u32,
     pub ap: u32,
     pub section: u32,
+    pub global: u32,
 }
 
 // Why an operation carried out gave no value.

@@ -85,10 +85,10 @@ fn image_buffer() -> [u8; 32769]
     [0; 32769]
 }
 
-fn track_buffer() -> [u32; 8192]
-    ensures { λ r. ⌜ 8192 ≡ length r ⌝ }
+fn track_buffer() -> [u32; 9216]
+    ensures { λ r. ⌜ 9216 ≡ length r ⌝ }
 {
-    [0; 8192]
+    [0; 9216]
 }
 
 fn report_buffer() -> [u8; 262272]

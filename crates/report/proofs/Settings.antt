@@ -11,7 +11,7 @@ use Rattle.text.specs.Hex.{digit, glyph, digits, number, lean, spelled, valueOf
 use Rattle.text.specs.Put.{over}
 use Rattle.text.specs.Quoted.{quotedFrom, quoted}
 use Rattle.model.specs.reference.Runs.{last, checkerRun}
-use Rattle.model.proofs.CaseTools.{imageA, next}
+use Rattle.model.proofs.CaseTools.{put, imageA, next}
 use Rattle.names.specs.Names.{namedIn}
 use Rattle.listing.specs.Line.{spare, zeros, opOf, judged, valuesOf, fieldA, fieldB, fieldC, fieldsOf, lineOf}
 use Rattle.listing.specs.Whole.{tooLong, hasNames, readLines, readList}
@@ -22,10 +22,18 @@ use Rattle.report.specs.Report.{imageLimit, trackLength, memoryLength, a
 abbrev reportText : ℕ → List ℕ → List ℕ → List ℕ
 reportText n image list = reportOf (take (memoryLength n) image) (replicate trackLength 7) list .text
 
+-- the shortest image, all zero: what it maps doesn't matter
+abbrev reportOfList : List ℕ → List ℕ
+reportOfList list = reportText 4096 (replicate 4096 0) list
+
+-- an image whose first MiB is a section at 0, AP 3, nG clear
+abbrev globalSection : List ℕ
+globalSection = put 0 0xC02 (replicate 4096 0)
+
 -- a list whose third line is turned back with this number: the line before it has been carried out, the one after it is not read
 abbrev turnedBack : String → String → List ℕ × List ℕ
 turnedBack line number = (
-  reportText 32768 imageA (quoted "op,a,b,c\nmode,0,0,0\n" ++ (quoted line ++ quoted "\nmode,0,0,0\n")),
+  reportOfList (quoted "op,a,b,c\nmode,0,0,0\n" ++ (quoted line ++ quoted "\nmode,0,0,0\n")),
   quoted "line,op,answer,value\n2,mode,ok,0\n3,-,refused," ++ (quoted number ++ quoted "\n"),
 )
 
@@ -43,25 +51,30 @@ settings =
       quoted
           "line,op,answer,value\n2,read,ok,12345678\n3,write,ok,0\n4,read,refused,10\n5,addr,ok,0\n6,read,ok,11223344\n7,read,fault,1\n8,read,fault,7\n9,mode,ok,0\na,read,fault,f\nb,all,refused,f\n",
     )
+    -- a global page changed to another global mapping: `ctx` leaves it stale, `addrctx` of any context frees it
+    ∷ (
+      reportText 4096 globalSection (quoted "op,a,b,c\nwrite,0,4,402\nctx,0,0,0\nread,0,4,0\naddrctx,0,7,0\nread,0,4,0\nread,1000,4,0\n"),
+      quoted "line,op,answer,value\n2,write,ok,0\n3,ctx,ok,0\n4,read,refused,10\n5,addrctx,ok,0\n6,read,ok,402\n7,read,refused,10\n",
+    )
     -- eight contexts
-    ∷ (reportText 32768 imageA (quoted "op,a,b,c\nasid,7,0,0\nasid,8,0,0\n"), quoted "line,op,answer,value\n2,asid,ok,0\n3,asid,refused,b\n")
+    ∷ (reportOfList (quoted "op,a,b,c\nasid,7,0,0\nasid,8,0,0\n"), quoted "line,op,answer,value\n2,asid,ok,0\n3,asid,refused,b\n")
     -- an image of 32,768 bytes, longer ones, and one that is missing
     ∷ (reportText 32768 (replicate 32768 0) (quoted "op,a,b,c\n"), quoted "line,op,answer,value\n")
     ∷ (reportText 32769 (replicate 32769 0) (quoted "op,a,b,c\n"), quoted "line,op,answer,value\n0,start,refused,d\n")
     ∷ (reportText 36864 (replicate 36864 0) (quoted "op,a,b,c\n"), quoted "line,op,answer,value\n0,start,refused,d\n")
     ∷ (reportText 0 [] (quoted "op,a,b,c\n"), quoted "line,op,answer,value\n0,start,refused,d\n")
     -- 1: a list of 65,537 bytes, and not one of 65,536
-    ∷ (reportText 32768 imageA (replicate 65537 10), quoted "line,op,answer,value\n1,-,refused,1\n")
-    ∷ (reportText 32768 imageA (replicate 65536 10), quoted "line,op,answer,value\n1,-,refused,2\n")
+    ∷ (reportOfList (replicate 65537 10), quoted "line,op,answer,value\n1,-,refused,1\n")
+    ∷ (reportOfList (replicate 65536 10), quoted "line,op,answer,value\n1,-,refused,2\n")
     -- 2: the empty list, and names without their newline
-    ∷ (reportText 32768 imageA [], quoted "line,op,answer,value\n1,-,refused,2\n")
-    ∷ (reportText 32768 imageA (quoted "op,a,b,c"), quoted "line,op,answer,value\n1,-,refused,2\n")
+    ∷ (reportOfList [], quoted "line,op,answer,value\n1,-,refused,2\n")
+    ∷ (reportOfList (quoted "op,a,b,c"), quoted "line,op,answer,value\n1,-,refused,2\n")
     -- 3: three fields, five, one, and no newline at the end; 3 before 4
     ∷ turnedBack "read,1000,4" "3"
     ∷ turnedBack "read,1000,4,0,0" "3"
     ∷ turnedBack "" "3"
     ∷ turnedBack "read,XX,4" "3"
-    ∷ (reportText 32768 imageA (quoted "op,a,b,c\nmode,0,0,0"), quoted "line,op,answer,value\n2,-,refused,3\n")
+    ∷ (reportOfList (quoted "op,a,b,c\nmode,0,0,0"), quoted "line,op,answer,value\n2,-,refused,3\n")
     -- 4: empty, a leading zero, nine digits, upper case; 4 before 5, and before 6
     ∷ turnedBack "read,,4,0" "4"
     ∷ turnedBack "read,01000,4,0" "4"

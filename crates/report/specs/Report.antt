@@ -22,12 +22,12 @@ use Rattle.report_line.specs.Text.{header, noName, startName, reportLine}
 use Rattle.report.specs.declared.Told.{Told}
 use Rattle.report.specs.declared.Told.the-variants.{Report, ShortBuffer, WrongTrack, WrongCounts}
 
--- the program's settings: the longest image, 8 contexts, root 0
+-- the program's settings: the longest image, 8 contexts and so 9 rows of 1,024 words, root 0
 abbrev pub imageLimit : ℕ
 imageLimit = 32768
 
 abbrev pub trackLength : ℕ
-trackLength = 8192
+trackLength = 9216
 
 -- the memory that an image file of n bytes gives: one that is too long counts as length 0, and so does a missing one, of which 0 bytes
 -- are read

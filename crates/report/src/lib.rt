@@ -34,7 +34,7 @@ fn memory_length(n: usize) -> usize
 pub fn looks_at_list(n: usize) -> bool
     ensures { λ r. ⌜ r ≡ looksAtList n ⌝ }
 {
-    match checks::check_start(memory_length(n), 8192, 0) { // trackLength
+    match checks::check_start(memory_length(n), 9216, 0) { // trackLength
         Check::Pass => true,
         Check::Refuse(_) => false,
     }
@@ -130,7 +130,7 @@ pub fn write_report(
     if out.len() < 262272 { // reportLimit
         return Told::ShortBuffer;
     }
-    if track.len() != 8192 { // trackLength
+    if track.len() != 9216 { // trackLength
         return Told::WrongTrack;
     }
     if image.len() < n {

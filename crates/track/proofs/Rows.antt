@@ -8,8 +8,15 @@ use native.Mathlib.Omega.{arith}
 use lib.ListN.{length, getD, set, take, drop, length-append, length-take, length-drop}
 use borrow.Author.Tests.{le-leb, lt-leb}
 use borrow.Rule.Slice.PartMut.{putMid}
-use mathlib.Core.Bool.{cond}
+use mathlib.Core.Bool.{Bool, true, false, cond}
+use lib.Dec.{leb}
 use Rattle.model.specs.step.Rows.{mapFirst, mapWords, inPart, inRow, eachRow}
+
+-- a word stored where it stands
+set-own : (l : List ℕ) (n : ℕ) → set l n (getD l n 0) ≡ l
+set-own [] n = refl
+set-own (w ∷ ws) zero = refl
+set-own (w ∷ ws) (suc n) = ap (λ (l : List ℕ). w ∷ l) (set-own ws n)
 
 module _ (f : ℕ → ℕ → ℕ) where
   pub length-mapFirst : (i n : ℕ) (l : List ℕ) → length (mapFirst f i n l) ≡ length l
@@ -34,6 +41,10 @@ module _ (f : ℕ → ℕ → ℕ) where
   turn old row n r e h q =
       let r-is : r ≡ f n (getD old n 0) = q ∙ ap (f n) (ap (λ (l : List ℕ). getD l n 0) e ∙ next-mapFirst 0 n old) in
       rw (add-one, e, r-is) (step 0 n n old (sym (zero-add n)) h)
+
+  -- a turn of a loop that finds the next word as f leaves it
+  pub still-turn : (l : List ℕ) (n : ℕ) → l ≡ mapFirst f 0 n l → n < length l → f n (getD l n 0) ≡ getD l n 0 → l ≡ mapFirst f 0 (n + 1) l
+  still-turn l n e h q = sym (set-own l n) ∙ turn l l n (getD l n 0) e h (sym q)
 
   whole-part : (i k : ℕ) (l : List ℕ) → mapFirst f i k l ≡ mapFirst f i (length (take k l)) (take k l) ++ drop k l
   whole-part i zero l = refl
@@ -86,9 +97,31 @@ same-words f g i (suc n) [] h = refl
 same-words f g i (suc n) (w ∷ ws) h =
     ap (λ (x : ℕ). x ∷ mapFirst f (suc i) n ws) (h i (omega arith) w) ∙ ap (λ (l : List ℕ). g i w ∷ l) (same-words f g (suc i) n ws (λ (p : ℕ) a. h p (omega arith)))
 
+-- a list from its two parts, and a part put back where it stood
+from-parts : (n : ℕ) (l : List ℕ) → take n l ++ drop n l ≡ l
+from-parts zero l = refl
+from-parts (suc n) [] = refl
+from-parts (suc n) (w ∷ ws) = ap (λ (l : List ℕ). w ∷ l) (from-parts n ws)
+
+part-own : (start k : ℕ) (l : List ℕ) → putMid start k l (take k (drop start l)) ≡ l
+part-own start k l = ap (λ (ys : List ℕ). take start l ++ ys) (from-parts k (drop start l)) ∙ from-parts start l
+
+-- a turn of a loop that finds the next part as f leaves it
+pub still-part : (f : ℕ → ℕ → ℕ) (l : List ℕ) (p k : ℕ) → l ≡ mapFirst f 0 p l → p ≤ length l → take k (drop p l) ≡ mapFirst f p (length (take k (drop p l))) (take k (drop p l)) → l ≡ mapFirst f 0 (p + k) l
+still-part f l p k e h q = sym (part-own p k l) ∙ part-turn f l l (take k (drop p l)) p k e h q
+
 -- a part that was lent and came back as ys
 pub put-part : (f : List ℕ → List ℕ) (start size k : ℕ) (l ys : List ℕ) → k ≡ size → ys ≡ f (take k (drop start l)) → putMid start k l ys ≡ inPart start size f l
 put-part f start size k l ys e q = rw (q, e)
+
+-- a row that f leaves as it is
+pub still-row : (f : List ℕ → List ℕ) (size c k : ℕ) (l : List ℕ) → k ≡ size → take k (drop (c * size) l) ≡ f (take k (drop (c * size) l)) → l ≡ inRow size c f l
+unfolding inRow
+still-row f size c k l e q = go (leb (c * size + size) (length l))
+  where
+    go : (b : Bool) → l ≡ cond b (inPart (c * size) size f l) l
+    go true = sym (part-own (c * size) k l) ∙ put-part f (c * size) size k l (take k (drop (c * size) l)) e q
+    go false = refl
 
 -- a row that was lent and came back as ys
 pub put-row : (f : List ℕ → List ℕ) (size c k : ℕ) (l ys : List ℕ) → k ≡ size → c * size + size ≤ length l → ys ≡ f (take k (drop (c * size) l)) → putMid (c * size) k l ys ≡ inRow size c f l

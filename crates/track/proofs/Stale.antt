@@ -11,7 +11,7 @@ use Rattle.model.specs.declared.Outcome.the-variants.{Mapped, Failed}
 use Rattle.model.specs.step.Track.{staleWord}
 
 -- an empty set holds nothing that is different
-pub empty-fresh : (o : Outcome) (w : ℕ) → w ≡ 0 → false ≡ staleWord w o
+pub empty-fresh : (g : ℕ) (o : Outcome) (w : ℕ) → w ≡ 0 → false ≡ staleWord g w o
 unfolding staleWord
-empty-fresh (Mapped e) w h = simp (eq-eqb w 0 h)
-empty-fresh (Failed f) w h = simp (eq-eqb w 0 h)
+empty-fresh g (Mapped e) w h = simp (eq-eqb w 0 h)
+empty-fresh g (Failed f) w h = simp (eq-eqb w 0 h)

@@ -1,38 +1,30 @@
-// What a TLB may remember, in the words of a track: a row of 1,024 words for each context, lent on by itself.
+// What a TLB may remember, in the words of a track: a row of 1,024 words for each context, then one for the global entries. A row is
+// lent on by itself. What is done to a word or a row is told the row's kind by the number `global`: 0 for a context's row, 1 for the
+// global row.
 ghost use mathlib.Core.Path.{_≡_};
-ghost use Prim.Native.Nat.{_+_, _*_, _<_, _≤_};
-ghost use lib.ListN.{length};
-ghost use Rattle.model.specs.declared.Size.the-variants.{Four};
-ghost use Rattle.model.specs.step.Memory.{numberAt};
-ghost use Rattle.model.specs.step.Rows.{mapWords};
-ghost use Rattle.model.specs.step.Track.{isEntry, addEntry, addOutcome, noteRow, noteTrack, emptyPage, emptyRow, flushAll, flushPage, flushContext, flushPageIn, wordAt, staleWord};
-ghost use Rattle.track.specs.Mib.{mibPages, noteSection, noteTable, noteMib};
-use descriptor::first_of;
-use descriptor::second_of;
-use descriptor::section_entry;
-use memory::load;
-use memory::number;
-use model::FirstLevel;
-use model::Loaded;
+ghost use Rattle.model.specs.Limits.{rowSize};
+ghost use Rattle.model.specs.step.Rows.{inRow};
+ghost use Rattle.model.specs.step.Track.{isEntry, addEntry, emptyPage, emptyRow, flushAll, flushPage, flushContext, flushPageIn, wordAt, staleWord, stalePage};
+use limits::last_row;
 use model::Outcome;
-use model::Size;
 
 // How many words a row has: rowSize.
 const ROW: usize = 1024;
 
-// How many pages a MiB has: mibPages.
-const MIB: usize = 256;
-
-// Whether a word stands for one entry.
-pub fn is_entry(w: u32) -> bool
-    ensures { λ r. ⌜ r ≡ isEntry w ⌝ }
+// Whether a word of a row of this kind stands for one entry.
+pub fn is_entry(global: u32, w: u32) -> bool
+    ensures { λ r. ⌜ r ≡ isEntry global w ⌝ }
 {
-    w % 256 == 2
+    let low = w % 128;
+    if low == 2 {
+        return w / 128 % 2 == global;
+    }
+    false
 }
 
-// A word after the entry with word v was added to its set.
-pub fn add_entry(w: u32, v: u32) -> u32
-    ensures { λ r. ⌜ r ≡ addEntry w v ⌝ }
+// A word of such a row after the entry with word v was added to its set.
+pub fn add_entry(global: u32, w: u32, v: u32) -> u32
+    ensures { λ r. ⌜ r ≡ addEntry global w v ⌝ }
 {
     if w == 0 {
         return v;
@@ -40,107 +32,10 @@ pub fn add_entry(w: u32, v: u32) -> u32
     if w == v {
         return w;
     }
-    if is_entry(w) {
+    if is_entry(global, w) {
         return 1;
     }
     w
-}
-
-// A word after noting what the walk of its page found.
-fn add_outcome(w: u32, o: Outcome) -> u32
-    ensures { λ r. ⌜ r ≡ addOutcome w o ⌝ }
-{
-    match o {
-        Outcome::Mapped(e) => add_entry(w, walk::entry_word(e)),
-        Outcome::Failed(_) => w,
-    }
-}
-
-// Notes the pages of a MiB by its section, whose word is x: word i is that of page i.
-fn note_section(x: u32, mib: &mut [u32])
-    ensures { λ _. ⌜ now (mib .exit) ≡ mapWords (noteSection x) (now (mib .entry)) ⌝ }
-{
-    let mut i = 0;
-    while i < mib.len() {
-        let w = mib[i];
-        mib[i] = add_entry(w, walk::entry_word(section_entry(x, i)));
-        i += 1;
-    }
-}
-
-// The word at `at`, which lies in memory.
-fn word(m: &[u8], at: usize) -> u32
-    requires { ⌜ at + 4 ≤ length (now m) ⌝ }
-    ensures { λ r. ⌜ r ≡ numberAt Four (now (m .entry)) at ⌝ }
-{
-    number(m[at], m[at + 1], m[at + 2], m[at + 3])
-}
-
-// How many of the n words from `base` on lie in memory.
-fn words_inside(m: &[u8], base: usize, n: usize) -> usize
-    ensures { λ r. ⌜ (r ≤ n) × ((0 < r → base + 4 * r ≤ length (now (m .entry))) × (r < n → length (now (m .entry)) < base + 4 * r + 4)) ⌝ }
-{
-    if m.len() < base {
-        return 0;
-    }
-    let words = (m.len() - base) / 4;
-    if words < n {
-        return words;
-    }
-    n
-}
-
-// Notes the pages of a MiB by the table at `base`: word i is that of page i. A page whose descriptor lies outside memory stays
-// as it is.
-fn note_table(m: &[u8], base: usize, mib: &mut [u32])
-    requires { ⌜ length (now mib) ≤ mibPages ⌝ }
-    ensures { λ _. ⌜ now (mib .exit) ≡ mapWords (noteTable (now (m .entry)) base) (now (mib .entry)) ⌝ }
-{
-    let n = words_inside(m, base, mib.len());
-    let mut i = 0;
-    while i < n {
-        let w = mib[i];
-        mib[i] = add_outcome(w, second_of(word(m, base + 4 * i), i));
-        i += 1;
-    }
-}
-
-// Notes the pages of the MiB whose level-one descriptor stands at `at`: word i is that of page i.
-fn note_mib(m: &[u8], at: usize, mib: &mut [u32])
-    requires { ⌜ length (now mib) ≤ mibPages ⌝ }
-    ensures { λ _. ⌜ now (mib .exit) ≡ mapWords (noteMib (now (m .entry)) at) (now (mib .entry)) ⌝ }
-{
-    if let Loaded::Value(x) = load(m, at, Size::Four) {
-        match first_of(x, 0) {
-            FirstLevel::Failing(_) => {}
-            FirstLevel::Section(_) => note_section(x, mib),
-            FirstLevel::Table(base) => note_table(m, base as usize, mib),
-        }
-    }
-}
-
-// Where the MiB that starts at `page` ends, in a row of n words.
-fn mib_end(page: usize, n: usize) -> usize
-    requires { ⌜ page < n ⌝ }
-    ensures { λ r. ⌜ (page < r) × ((r ≤ n) × ((r ≤ page + mibPages) × (r < n → r ≡ page + mibPages))) ⌝ }
-{
-    if n - page < MIB {
-        return n;
-    }
-    page + MIB
-}
-
-// Notes a row: each of its words is one page's. The pages of a MiB share a level-one descriptor, which is read once.
-pub fn note_row(m: &[u8], root: u32, row: &mut [u32])
-    ensures { λ _. ⌜ now (row .exit) ≡ noteRow (now (m .entry)) root (now (row .entry)) ⌝ }
-{
-    let mut page = 0;
-    while page < row.len() {
-        let end = mib_end(page, row.len());
-        let at = root as usize + 4 * (page / MIB);
-        note_mib(m, at, &mut row[page..end]);
-        page = end;
-    }
 }
 
 // Empties every set of a row.
@@ -163,17 +58,6 @@ pub fn empty_page(row: &mut [u32], page: usize)
     }
 }
 
-// Notes the row of a context, where the track has it.
-pub fn note(m: &[u8], root: u32, track: &mut [u32], context: usize)
-    ensures { λ _. ⌜ now (track .exit) ≡ noteTrack (now (m .entry)) root context (now (track .entry)) ⌝ }
-{
-    if context < track.len() / ROW {
-        let start = context * ROW;
-        let end = start + ROW;
-        note_row(m, root, &mut track[start..end]);
-    }
-}
-
 // Empties the row of a context, where the track has it.
 pub fn flush_context(track: &mut [u32], context: usize)
     ensures { λ _. ⌜ now (track .exit) ≡ flushContext context (now (track .entry)) ⌝ }
@@ -185,15 +69,24 @@ pub fn flush_context(track: &mut [u32], context: usize)
     }
 }
 
-// Empties the set of a page in a context, where the track has it.
-pub fn flush_page_in(track: &mut [u32], context: usize, page: usize)
-    ensures { λ _. ⌜ now (track .exit) ≡ flushPageIn context page (now (track .entry)) ⌝ }
+// Empties the set of a page in one row of a track, where the track has it.
+fn empty_in(track: &mut [u32], row: usize, page: usize)
+    ensures { λ _. ⌜ now (track .exit) ≡ inRow rowSize row (emptyPage page) (now (track .entry)) ⌝ }
 {
-    if context < track.len() / ROW {
-        let from = context * ROW;
+    if row < track.len() / ROW {
+        let from = row * ROW;
         let to = from + ROW;
         empty_page(&mut track[from..to], page);
     }
+}
+
+// Empties the set of a page in a context, where the track has it, and its global set.
+pub fn flush_page_in(track: &mut [u32], context: usize, page: usize)
+    ensures { λ _. ⌜ now (track .exit) ≡ flushPageIn context page (now (track .entry)) ⌝ }
+{
+    let last = last_row(track.len());
+    empty_in(track, context, page);
+    empty_in(track, last, page);
 }
 
 // Empties every set.
@@ -208,23 +101,26 @@ pub fn flush_all(track: &mut [u32])
     }
 }
 
-// Empties the set of a page in every context.
+// Empties the set of a page in every context, and its global set.
 pub fn flush_page(track: &mut [u32], page: usize)
     ensures { λ _. ⌜ now (track .exit) ≡ flushPage page (now (track .entry)) ⌝ }
 {
     let rows = track.len() / ROW;
     let mut c = 0;
     while c < rows {
-        flush_page_in(track, c, page);
+        empty_in(track, c, page);
         c += 1;
     }
 }
 
-// The word of a context and a page, or 0 where the track has none.
-pub fn word_at(track: &[u32], context: u32, page: usize) -> u32
-    ensures { λ r. ⌜ r ≡ wordAt (now (track .entry)) context page ⌝ }
+// The word of a row and a page, or 0 where the track has none.
+pub fn word_at(track: &[u32], row: usize, page: usize) -> u32
+    ensures { λ r. ⌜ r ≡ wordAt (now (track .entry)) row page ⌝ }
 {
-    let start = context as usize * ROW;
+    if track.len() / ROW < row {
+        return 0;
+    }
+    let start = row * ROW;
     if start < track.len() {
         if page < track.len() - start {
             return track[start + page];
@@ -234,21 +130,36 @@ pub fn word_at(track: &[u32], context: u32, page: usize) -> u32
     0
 }
 
-// Whether a page with this word is stale.
-pub fn is_stale(w: u32, o: Outcome) -> bool
-    ensures { λ r. ⌜ r ≡ staleWord w o ⌝ }
+// Whether a word of a row of this kind makes its page stale.
+pub fn is_stale(global: u32, w: u32, o: Outcome) -> bool
+    ensures { λ r. ⌜ r ≡ staleWord global w o ⌝ }
 {
     if w == 0 {
         return false;
     }
     match o {
         Outcome::Mapped(e) => {
-            let v = walk::entry_word(e);
-            if w == v {
-                return false;
+            if e.global == global {
+                let v = walk::entry_word(e);
+                if w == v {
+                    return false;
+                }
+                return true;
             }
             true
         }
         Outcome::Failed(_) => true,
     }
+}
+
+// Whether a page with this outcome is stale, by its word in the row of a context or by its word in the global row.
+pub fn is_stale_page(track: &[u32], context: u32, page: usize, o: Outcome) -> bool
+    ensures { λ r. ⌜ r ≡ stalePage (now (track .entry)) context page o ⌝ }
+{
+    let own = word_at(track, context as usize, page);
+    if is_stale(0, own, o) {
+        return true;
+    }
+    let shared = word_at(track, last_row(track.len()), page);
+    is_stale(1, shared, o)
 }

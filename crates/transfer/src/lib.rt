@@ -26,7 +26,7 @@ fn value_of(x: Loaded) -> u32
 pub fn carry(x: Answer, r: Registers, m: &[u8], t: &mut [u32]) -> Returned
     ensures { λ y. ⌜ Gives (carried x r (now (m .entry)) (now (t .entry))) y (now (m .entry)) (now (t .exit)) ⌝ }
 {
-    track::note(m, r.root, t, r.context as usize);
+    noting::note(m, r.root, t, r.context as usize);
     Returned {
         answer: x,
         registers: r,
@@ -46,7 +46,7 @@ fn store_and_note(
     ensures { λ _. ⌜ (now (m .exit) ≡ writtenAt size (now (m .entry)) at v) × (now (t .exit) ≡ noteTrack (now (m .exit)) root context (now (t .entry))) ⌝ }
 {
     memory::store(m, at, size, v);
-    track::note(m, root, t, context as usize);
+    noting::note(m, root, t, context as usize);
 }
 
 // A read, by what its access comes to.

@@ -1,5 +1,5 @@
 //! Times the proved code against plain Rust on the same input, in one run, and prints the ratios. Called with the name of a way
-//! to note a row, it is the plain program that notes that way.
+//! to note the rows, it is the plain program that notes that way.
 use model::generate;
 use model::machine::{Kind, Operation};
 use model::random::Random;
@@ -66,32 +66,57 @@ struct List {
     operations: Vec<Operation>,
 }
 
-/// An image whose root points to four tables, which map all 1,024 pages to the image's eight.
-fn image_of_tables() -> Vec<u8> {
+/// nG of a page, and of a section.
+const NG_PAGE: u32 = 1 << 11;
+const NG_SECTION: u32 = 1 << 17;
+
+fn put(image: &mut [u8], at: u32, word: u32) {
+    image[at as usize..at as usize + 4].copy_from_slice(&word.to_le_bytes());
+}
+
+/// Image A with its page 1 global, so that it maps one page of each kind.
+fn image_a_mixed() -> Vec<u8> {
+    let mut image = generate::image_a();
+    put(&mut image, 0x404, 0x3832 & !NG_PAGE);
+    image
+}
+
+/// An image whose root points to four tables, which map all 1,024 pages to the image's eight. The
+/// pages have these nG bits in turn.
+fn image_of_tables(ng: [u32; 2]) -> Vec<u8> {
     let mut image = vec![0; 32_768];
-    let mut put = |at: u32, word: u32| {
-        image[at as usize..at as usize + 4].copy_from_slice(&word.to_le_bytes());
-    };
     for mib in 0..4 {
-        put(4 * mib, 0x400 * (mib + 1) + 1);
+        put(&mut image, 4 * mib, 0x400 * (mib + 1) + 1);
     }
     for page in 0..1024 {
-        put(0x400 + 4 * page, (page % 8) << 12 | 0x032);
+        let word = (page % 8) << 12 | 0x032 | ng[page as usize % 2];
+        put(&mut image, 0x400 + 4 * page, word);
     }
     image
+}
+
+/// An image whose root has four sections at 0, own and global in turn.
+fn image_of_sections() -> Vec<u8> {
+    let mut image = vec![0; 32_768];
+    for mib in 0..4 {
+        let ng = if mib % 2 == 0 { NG_SECTION } else { 0 };
+        put(&mut image, 4 * mib, 0xC02 | ng);
+    }
+    image
+}
+
+/// A store to one of 64 level-two words. Neighbours are own and global in turn, and each page turns
+/// from one to the other when its word comes round again.
+fn descriptor_store(i: u32) -> Operation {
+    let (word, round) = (i % 64, i / 64);
+    let ng = if (word + round) % 2 == 0 { NG_PAGE } else { 0 };
+    let value = (0x2002 + 0x1000 * (i % 4)) | ng;
+    op(Kind::Write, 0x408 + 4 * word, 4, value)
 }
 
 /// The lists. Each is within 65,536 bytes.
 fn lists() -> Vec<List> {
     let data = |i: u32| op(Kind::Write, 0x1000 + i % 256, 1, i % 16);
-    let table = |i: u32| {
-        op(
-            Kind::Write,
-            0x408 + 4 * (i % 64),
-            4,
-            0x2002 + 0x1000 * (i % 4),
-        )
-    };
     let flush = |i: u32| match i % 4 {
         0 => op(Kind::All, 0, 0, 0),
         1 => op(Kind::Addr, 0x1000, 0, 0),
@@ -102,24 +127,36 @@ fn lists() -> Vec<List> {
     let all = |n: u32, operation: &dyn Fn(u32) -> Operation| (0..n).map(operation).collect();
     let on_image_a = |name, operations| List {
         name,
-        image: generate::image_a(),
+        image: image_a_mixed(),
         operations,
+    };
+    let reads = |name, image| List {
+        name,
+        image,
+        operations: all(4_000, &read),
     };
     vec![
         on_image_a("names alone", Vec::new()),
         on_image_a("4,000 data stores", all(4_000, &data)),
-        on_image_a("2,000 descriptor stores", all(2_000, &table)),
+        on_image_a("2,000 descriptor stores", all(2_000, &descriptor_store)),
         on_image_a("3,500 flushes", all(3_500, &flush)),
         on_image_a("4,000 reads", all(4_000, &read)),
-        List {
-            name: "4,000 reads, all 1,024 pages mapped by tables",
-            image: image_of_tables(),
-            operations: all(4_000, &read),
-        },
+        reads(
+            "4,000 reads, all 1,024 pages mapped by tables",
+            image_of_tables([NG_PAGE, 0]),
+        ),
+        reads(
+            "4,000 reads, all 1,024 pages mapped by tables, all global",
+            image_of_tables([0, 0]),
+        ),
+        reads(
+            "4,000 reads, two own and two global sections",
+            image_of_sections(),
+        ),
     ]
 }
 
-/// The ways to note a row that the plain program has, by the argument that asks for each.
+/// The ways to note the rows that the plain program has, by the argument that asks for each.
 const WAYS: [(&str, rival::Note); 2] = [("by-page", rival::by_page), ("by-mib", rival::by_mib)];
 
 fn rival(way: &str, list: &Path, folder: &Path) -> Vec<u8> {

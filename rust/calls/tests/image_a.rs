@@ -12,6 +12,19 @@ const ASID: u32 = 3;
 const MODE: u32 = 4;
 const ALL: u32 = 5;
 const ADDR: u32 = 6;
+const CTX: u32 = 7;
+const ADDRCTX: u32 = 8;
+
+/// An empty track for this many contexts: a row for each, and the global one.
+fn track(contexts: usize) -> Vec<u32> {
+    vec![0; (contexts + 1) * 1024]
+}
+
+fn put(memory: &mut [u8], words: &[(usize, u32)]) {
+    for (at, word) in words {
+        memory[*at..*at + 4].copy_from_slice(&word.to_le_bytes());
+    }
+}
 
 #[test]
 fn single_walks() {
@@ -30,18 +43,29 @@ fn single_walks() {
 #[test]
 fn sections_and_walks_outside_memory() {
     let mut image = image_a();
-    for (at, word) in [(0x4, 0x3002_0C02_u32), (0x8, 0x8001)] {
-        image[at..at + 4].copy_from_slice(&word.to_le_bytes());
-    }
+    put(&mut image, &[(0x4, 0x3002_0C02), (0x8, 0x8001)]);
     assert_eq!(calls::walk(&image, 0, 0x1A_B000), 0x300A_B702);
     assert_eq!(calls::walk(&image, 0x8000, 0), FAULT + 0xc);
     assert_eq!(calls::walk(&image, 0, 0x20_0000), FAULT + 0xe);
 }
 
+/// With nG clear, the word of a small page, a large page or a section has bit 7 set.
+#[test]
+fn walks_of_global_pages() {
+    let mut image = image_a();
+    put(&mut image, &[(0x4, 0x3000_0C02), (0x404, 0x3032)]);
+    put(&mut image, &[(0x440, 0x2_0031), (0x444, 0x2_0831)]);
+    assert_eq!(calls::walk(&image, 0, 0x0), 0x202);
+    assert_eq!(calls::walk(&image, 0, 0x1000), 0x3682);
+    assert_eq!(calls::walk(&image, 0, 0x1_0000), 0x2_0682);
+    assert_eq!(calls::walk(&image, 0, 0x1_1000), 0x2_1602);
+    assert_eq!(calls::walk(&image, 0, 0x1A_B000), 0x300A_B782);
+}
+
 #[test]
 fn the_list() {
     let mut memory = image_a();
-    let mut track = vec![7; 8 * 1024];
+    let mut track = vec![7; 9 * 1024];
     let mut registers = [9; 3];
     assert_eq!(calls::start(&memory, &mut track, 0, &mut registers), 0);
     assert_eq!(registers, [0, 0, 0]);
@@ -77,15 +101,9 @@ fn the_list() {
 #[test]
 fn asid_then_root() {
     let mut memory = image_a();
-    for (at, word) in [
-        (0x400, 0x832_u32),
-        (0x80, 0x801),
-        (0x800, 0x832),
-        (0x804, 0x4832),
-    ] {
-        memory[at..at + 4].copy_from_slice(&word.to_le_bytes());
-    }
-    let mut track = vec![0; 2 * 1024];
+    put(&mut memory, &[(0x400, 0x832), (0x80, 0x801)]);
+    put(&mut memory, &[(0x800, 0x832), (0x804, 0x4832)]);
+    let mut track = track(2);
     let mut registers = [0; 3];
     assert_eq!(calls::start(&memory, &mut track, 0, &mut registers), 0);
     for operation in [[ASID, 1, 0, 0], [ROOT, 0x80, 0, 0]] {
@@ -95,6 +113,7 @@ fn asid_then_root() {
     assert_eq!(registers, [0x80, 1, 0]);
     assert_eq!(track[..2], [0x602, 0x3602]);
     assert_eq!(track[1024..1026], [0x602, 1]);
+    assert!(track[2048..].iter().all(|&word| word == 0));
     for (page, answer) in [(0, 0x401), (1, REFUSAL + 16)] {
         let read = [READ, 0x1000 * page, 4, 0];
         let found = calls::step(&read, &mut registers, &mut memory, &mut track);
@@ -102,11 +121,132 @@ fn asid_then_root() {
     }
 }
 
+/// Page 0 is own and page 1 global: each stands in its row alone, and the global entry stays in
+/// every context until a flush that names it.
+#[test]
+fn a_global_page() {
+    let mut memory = image_a();
+    put(&mut memory, &[(0x404, 0x3032)]);
+    let mut track = track(2);
+    let mut registers = [0; 3];
+    assert_eq!(calls::start(&memory, &mut track, 0, &mut registers), 0);
+    let rows = |track: &[u32]| [0, 1024, 2048].map(|at| [track[at], track[at + 1]]);
+    assert_eq!(rows(&track), [[0x202, 0], [0, 0], [0, 0x3682]]);
+    // What each operation answers, and what the rows hold of pages 0 and 1 afterwards.
+    let steps: [([u32; 4], u64, [[u32; 2]; 3]); 9] = [
+        ([ASID, 1, 0, 0], 0, [[0x202, 0], [0x202, 0], [0, 0x3682]]),
+        (
+            [READ, 0x1000, 4, 0],
+            0x1234_5678,
+            [[0x202, 0], [0x202, 0], [0, 0x3682]],
+        ),
+        (
+            [WRITE, 0x404, 4, 0x4032],
+            0,
+            [[0x202, 0], [0x202, 0], [0, 1]],
+        ),
+        (
+            [READ, 0x1000, 4, 0],
+            REFUSAL + 16,
+            [[0x202, 0], [0x202, 0], [0, 1]],
+        ),
+        ([CTX, 1, 0, 0], 0, [[0x202, 0], [0x202, 0], [0, 1]]),
+        (
+            [READ, 0x1000, 4, 0],
+            REFUSAL + 16,
+            [[0x202, 0], [0x202, 0], [0, 1]],
+        ),
+        (
+            [ADDRCTX, 0x1000, 0, 0],
+            0,
+            [[0x202, 0], [0x202, 0], [0, 0x4682]],
+        ),
+        (
+            [READ, 0x1000, 4, 0],
+            0x1122_3344,
+            [[0x202, 0], [0x202, 0], [0, 0x4682]],
+        ),
+        (
+            [WRITE, 0x404, 4, 0x4832],
+            0,
+            [[0x202, 0], [0x202, 0x4602], [0, 0x4682]],
+        ),
+    ];
+    for (operation, answer, left) in steps {
+        let given = calls::step(&operation, &mut registers, &mut memory, &mut track);
+        assert_eq!((given, rows(&track)), (answer, left), "{operation:x?}");
+    }
+    // The page turned own: neither word is 1, and it is stale by its global entry.
+    let read = [READ, 0x1000, 4, 0];
+    let given = calls::step(&read, &mut registers, &mut memory, &mut track);
+    assert_eq!(given, REFUSAL + 16);
+}
+
+/// A row for each of 1 to 256 contexts and the global one; no other length.
+#[test]
+fn lengths_of_tracks() {
+    let mut memory = image_a();
+    for (words, fits) in [
+        (0, false),
+        (1023, false),
+        (1024, false),
+        (1025, false),
+        (2 * 1024, true),
+        (2 * 1024 + 1, false),
+        (9 * 1024, true),
+        (257 * 1024 - 1, false),
+        (257 * 1024, true),
+        (258 * 1024, false),
+    ] {
+        let expected = if fits { 0 } else { REFUSAL + 13 };
+        let (mut track, mut registers) = (vec![0; words], [0; 3]);
+        let answer = calls::start(&memory, &mut track, 0, &mut registers);
+        assert_eq!(answer, expected, "{words} words, start");
+        let mode = [MODE, 0, 0, 0];
+        let answer = calls::step(&mode, &mut registers, &mut memory, &mut track);
+        assert_eq!(answer, expected, "{words} words, mode");
+        if fits {
+            let contexts = (words / 1024 - 1) as u32;
+            for (context, answer) in [(contexts - 1, 0), (contexts, REFUSAL + 11)] {
+                let asid = [ASID, context, 0, 0];
+                let given = calls::step(&asid, &mut registers, &mut memory, &mut track);
+                assert_eq!(given, answer, "{words} words, context {context}");
+            }
+        }
+    }
+}
+
+/// A word for one entry in a row of the other kind: the page is stale, the word stays when the page
+/// is noted, and goes with a flush. Page 0 is own, page 1 global.
+#[test]
+fn words_in_a_row_of_the_other_kind() {
+    let mut image = image_a();
+    put(&mut image, &[(0x404, 0x3032)]);
+    for (page, at, word, flush) in [
+        (0, 1024, 0x202, [ADDRCTX, 0x0, 0, 0]),
+        (1, 1, 0x3682, [CTX, 0, 0, 0]),
+    ] {
+        let (mut memory, mut track, mut registers) = (image.clone(), track(1), [0; 3]);
+        let mut step = |operation: [u32; 4], track: &mut Vec<u32>| {
+            calls::step(&operation, &mut registers, &mut memory, track)
+        };
+        track[at] = word;
+        assert_eq!(step([MODE, 0, 0, 0], &mut track), 0);
+        assert_eq!(track[at], word, "page {page}: the word stays");
+        let read = [READ, 0x1000 * page, 4, 0];
+        assert_eq!(step(read, &mut track), REFUSAL + 16, "page {page}");
+        assert_eq!(step(flush, &mut track), 0);
+        assert_eq!(track[at], 0, "page {page}: the word goes");
+        let value = [0x401, 0x1234_5678][page as usize];
+        assert_eq!(step(read, &mut track), value, "page {page}");
+    }
+}
+
 #[test]
 fn refusals_leave_everything() {
     let image = image_a();
     let mut memory = image.clone();
-    let mut track = vec![7; 1024];
+    let mut track = vec![7; 2 * 1024];
     // a start with a wrong root: zero registers, the rest as lent
     let mut registers = [9; 3];
     assert_eq!(
@@ -115,11 +255,12 @@ fn refusals_leave_everything() {
     );
     assert_eq!(registers, [0; 3]);
     // a wrong length, registers out of range, a stale page
-    let states: [(usize, [u32; 3], u64); 4] = [
-        (1023, [0, 0, 0], 13),
-        (1024, [0, 1, 0], 14),
-        (1024, [0x40, 0, 0], 14),
-        (1024, [0, 0, 0], 16),
+    let states: [(usize, [u32; 3], u64); 5] = [
+        (1024, [0, 0, 0], 13),
+        (2047, [0, 0, 0], 13),
+        (2048, [0, 1, 0], 14),
+        (2048, [0x40, 0, 0], 14),
+        (2048, [0, 0, 0], 16),
     ];
     for (words, given, refusal) in states {
         let mut registers = given;

@@ -29,8 +29,13 @@ pub fn cases(usual: u64) -> impl Iterator<Item = (u64, Random)> {
 }
 
 /// How often each thing was seen.
-#[derive(Default)]
 pub struct Tally<T: Ord>(BTreeMap<T, u64>);
+
+impl<T: Ord + Debug> Default for Tally<T> {
+    fn default() -> Tally<T> {
+        Tally::new()
+    }
+}
 
 impl<T: Ord + Debug> Tally<T> {
     pub fn new() -> Tally<T> {

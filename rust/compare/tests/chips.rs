@@ -1,23 +1,26 @@
 //! The model's machine against its own chips and plain machine, and 16 against the entries that a
 //! TLB can really reach.
 use compare::{cases, keep, Tally};
-use model::chip::{Chip, Plain};
-use model::generate::{self, damaged, operation, PAGES};
-use model::machine::{Answer, Kind, Machine, Operation};
+use model::chip::{Chip, Held, Plain};
+use model::generate::{self, damaged, operations, PAGES};
+use model::machine::{Answer, Kind, Machine, Operation, Scope};
 use model::random::Random;
 use model::walk::Entry;
+use std::collections::BTreeSet;
 
 const CONTEXTS: u32 = 3;
 
 fn list(random: &mut Random, memory: u32) -> Vec<Operation> {
     let length = 10 + random.below(30);
-    (0..length)
-        .map(|_| damaged(random, CONTEXTS, memory))
+    let list = operations(random, CONTEXTS, memory, length);
+    list.into_iter()
+        .map(|o| damaged(random, CONTEXTS, o))
         .collect()
 }
 
 fn start(image: &[u8], root: u32) -> Machine {
-    let (answer, machine) = Machine::start(image, &[0; CONTEXTS as usize * 1024], root);
+    let track = [0; (CONTEXTS as usize + 1) * 1024];
+    let (answer, machine) = Machine::start(image, &track, root);
     assert_eq!(answer, Answer::Ok(0));
     machine
 }
@@ -28,9 +31,38 @@ fn fail(case: u64, image: &[u8], list: &[Operation], what: &str) -> ! {
     panic!("{what}; image and list are in {}", folder.display());
 }
 
+/// What translates an access that is carried out.
+#[derive(Clone, Copy, PartialEq, Eq, PartialOrd, Ord, Debug)]
+enum By {
+    /// The tables, since no held entry matches.
+    Tables,
+    /// An entry loaded in the current context.
+    Own,
+    /// An entry loaded in another one.
+    Another,
+}
+
+fn by(chip: &Chip, access: &Operation) -> By {
+    match chip.held(access.a >> 12) {
+        None => By::Tables,
+        Some(held) if held.context == chip.plain.registers.context => By::Own,
+        Some(_) => By::Another,
+    }
+}
+
+/// Whether at most one held entry matches a page in each context.
+fn one_matches_at_most(chip: &Chip) -> bool {
+    let matching = |context, page| {
+        let held = chip.places.iter().flatten();
+        held.filter(|held| held.matches(context, page)).count()
+    };
+    (0..CONTEXTS).all(|context| PAGES.iter().all(|page| matching(context, *page) <= 1))
+}
+
 #[test]
 fn chips_agree_with_the_machine() {
     let mut seen = Tally::new();
+    let mut used = Tally::new();
     for (case, mut random) in cases(1_200) {
         let image = generate::image(&mut random);
         let operations = list(&mut random, image.len() as u32);
@@ -46,6 +78,9 @@ fn chips_agree_with_the_machine() {
                 other => (o.kind, other),
             });
             if !matches!(answer, Answer::Refused(_)) {
+                if o.is_access() && o.is_aligned() {
+                    used.add(by(&chip, o));
+                }
                 let (by_plain, by_chip) = (plain.step(o), chip.step(o));
                 if answer != by_plain || answer != by_chip {
                     let what = format!("{o:x?}: {answer:x?}, {by_plain:x?}, {by_chip:x?}");
@@ -59,8 +94,12 @@ fn chips_agree_with_the_machine() {
                 fail(case, &image, &operations, "memory or registers differ");
             }
             chip.moves(&mut random, &PAGES);
+            if !one_matches_at_most(&chip) {
+                fail(case, &image, &operations, "two held entries match a page");
+            }
         }
     }
+    used.must_have("accesses, by", [By::Tables, By::Own, By::Another]);
     let flushes = [Kind::All, Kind::Addr, Kind::Ctx, Kind::AddrCtx];
     let carried = [Kind::Read, Kind::Write, Kind::Root, Kind::Asid, Kind::Mode];
     let stale = [Kind::Read, Kind::Write].map(|kind| (kind, Answer::Refused(16)));
@@ -68,9 +107,10 @@ fn chips_agree_with_the_machine() {
     seen.must_have("chips", all.map(|kind| (kind, Answer::Ok(0))).chain(stale));
 }
 
-/// What a TLB of one place can hold for a page at the end: an entry that it loads at some time and
-/// then keeps. The operations come with whether they were refused.
-fn reachable(image: &[u8], root: u32, told: &[(Operation, bool)], page: u32) -> Vec<Entry> {
+/// What a TLB of one place can hold for a page at the end, of what matches it in the context that is
+/// then current: an entry that it loads at some time and then keeps. The operations come with whether
+/// they were refused.
+fn reachable(image: &[u8], root: u32, told: &[(Operation, bool)], page: u32) -> Vec<Held> {
     let mut held = Vec::new();
     for load_at in 0..=told.len() {
         let mut chip = Chip::new(image, root, 1);
@@ -85,19 +125,71 @@ fn reachable(image: &[u8], root: u32, told: &[(Operation, bool)], page: u32) -> 
         if load_at == told.len() {
             chip.load(page);
         }
-        let context = chip.plain.registers.context;
-        if let Some((c, p, entry)) = chip.places[0] {
-            if (c, p) == (context, page) {
-                held.push(entry);
-            }
-        }
+        held.extend(chip.held(page));
     }
     held
 }
 
 /// Whether two entries differ in this alone, that one came from a section.
 fn is_split(x: Entry, y: Entry) -> bool {
-    x.section != y.section && (x.frame, x.ap) == (y.frame, y.ap)
+    x.section != y.section && (x.frame, x.ap, x.global) == (y.frame, y.ap, y.global)
+}
+
+/// Whether two entries differ in this alone, that one is global.
+fn is_turned(x: Entry, y: Entry) -> bool {
+    x.global != y.global && (x.frame, x.ap, x.section) == (y.frame, y.ap, y.section)
+}
+
+/// What makes a page stale: by its sets, and of these such as are easily forgotten.
+#[derive(Clone, Copy, PartialEq, Eq, PartialOrd, Ord, Debug)]
+enum Stale {
+    Not,
+    /// Its context's set, and not its global set.
+    OwnSetAlone,
+    /// Its global set, and not its context's.
+    GlobalSetAlone,
+    BothSets,
+    /// Entries that differ from the present one in this alone, that one came from a section.
+    SectionAlone,
+    /// Entries that differ from the present one in this alone, that one is global.
+    NgAlone,
+    /// Entries that were all loaded in other contexts.
+    LoadedElsewhere,
+}
+
+const STALE: [Stale; 7] = [
+    Stale::Not,
+    Stale::OwnSetAlone,
+    Stale::GlobalSetAlone,
+    Stale::BothSets,
+    Stale::SectionAlone,
+    Stale::NgAlone,
+    Stale::LoadedElsewhere,
+];
+
+/// The kinds of a page, by the entries that a TLB can hold for it other than the present outcome.
+fn kinds(others: &[Held], present: Option<Entry>, context: u32) -> Vec<Stale> {
+    if others.is_empty() {
+        return vec![Stale::Not];
+    }
+    let any = |global| others.iter().any(|h| h.entry.global == global);
+    let all = |differ: fn(Entry, Entry) -> bool| {
+        present.is_some_and(|p| others.iter().all(|h| differ(h.entry, p)))
+    };
+    [
+        (Stale::OwnSetAlone, any(false) && !any(true)),
+        (Stale::GlobalSetAlone, any(true) && !any(false)),
+        (Stale::BothSets, any(true) && any(false)),
+        (Stale::SectionAlone, all(is_split)),
+        (Stale::NgAlone, all(is_turned)),
+        (
+            Stale::LoadedElsewhere,
+            others.iter().all(|h| h.context != context),
+        ),
+    ]
+    .into_iter()
+    .filter_map(|(kind, holds)| holds.then_some(kind))
+    .collect()
 }
 
 #[test]
@@ -107,11 +199,12 @@ fn stale_is_what_a_tlb_can_reach() {
         let image = generate::image(&mut random);
         let root = *random.pick(&generate::ROOTS);
         let mut machine = start(&image, root);
+        let length = 4 + random.below(14);
+        let list = operations(&mut random, CONTEXTS, image.len() as u32, length);
         let mut told = Vec::new();
-        for _ in 0..4 + random.below(14) {
-            let o = operation(&mut random, CONTEXTS, image.len() as u32);
-            let answer = machine.step(&o);
-            told.push((o, matches!(answer, Answer::Refused(_))));
+        for o in &list {
+            let answer = machine.step(o);
+            told.push((*o, matches!(answer, Answer::Refused(_))));
         }
         for page in PAGES {
             let read = Operation {
@@ -121,19 +214,24 @@ fn stale_is_what_a_tlb_can_reach() {
                 c: 0,
             };
             let present = machine.outcome(read.a).ok();
-            let held = reachable(&image, root, &told, page);
-            let could = held.iter().any(|entry| Some(*entry) != present);
+            let mut others = reachable(&image, root, &told, page);
+            others.retain(|held| Some(held.entry) != present);
+            let could = !others.is_empty();
             let refused = machine.clone().step(&read) == Answer::Refused(16);
             if could != refused {
-                let list: Vec<Operation> = told.iter().map(|(o, _)| *o).collect();
                 let what = format!("page {page:#x}: a TLB could: {could}, refused: {refused}");
                 fail(case, &image, &list, &what);
             }
-            let others = || held.iter().filter(|entry| Some(**entry) != present);
-            let by_section_alone =
-                others().count() > 0 && others().all(|e| present.is_some_and(|p| is_split(*e, p)));
-            seen.add((refused, by_section_alone));
+            let scopes: BTreeSet<Scope> = others.iter().map(Held::scope).collect();
+            let sets: BTreeSet<Scope> = machine.stale_in(read.a).into_iter().collect();
+            if scopes != sets {
+                let what = format!("page {page:#x}: a TLB: {scopes:?}, the sets: {sets:?}");
+                fail(case, &image, &list, &what);
+            }
+            for kind in kinds(&others, present, machine.registers.context) {
+                seen.add(kind);
+            }
         }
     }
-    seen.must_have("stale pages", [(false, false), (true, false), (true, true)]);
+    seen.must_have("pages, stale by", STALE);
 }

@@ -1,58 +1,16 @@
 //! The program against the model's report, on generated images and lists, whole and damaged.
 use compare::{cases, keep, Tally};
-use model::generate::{self, damaged};
+use model::generate;
 use model::list::report;
-use model::random::Random;
 use model::walk::fault;
-
-/// A list, and sometimes something wrong with its bytes.
-fn list(random: &mut Random, memory: u32) -> Vec<u8> {
-    let length = random.below(120);
-    let operations: Vec<_> = (0..length).map(|_| damaged(random, 8, memory)).collect();
-    // Unused fields are 0 in the text of most lists.
-    let mut text = String::from("op,a,b,c\n");
-    for o in &operations {
-        let (_, name, used) = model::machine::KINDS[o.kind as usize];
-        let mut fields = [o.a, o.b, o.c];
-        if !random.one_in(60) {
-            fields[used..].fill(0);
-        }
-        let [a, b, c] = fields;
-        text.push_str(&format!("{name},{a:x},{b:x},{c:x}\n"));
-    }
-    let mut bytes = text.into_bytes();
-    let at = random.below(bytes.len() as u64) as usize;
-    match random.below(16) {
-        0 => bytes[at] = random.word() as u8,
-        1 => bytes[at] = *random.pick(b",\n0Aafgx-+ "),
-        2 => bytes.insert(at, *random.pick(b",\n0Aaf1")),
-        3 => bytes.truncate(at),
-        4 => drop(bytes.remove(at)),
-        5 => bytes.resize(65_537 + random.below(3) as usize, b'\n'),
-        _ => (),
-    }
-    bytes
-}
-
-fn any_image(random: &mut Random) -> Option<Vec<u8>> {
-    let mut image = generate::image(random);
-    match random.below(30) {
-        0 => return None,
-        1 => image.truncate(random.below(9000) as usize),
-        2 => image.resize(32_769, 0),
-        3 => image.resize(32_768, 0),
-        _ => (),
-    }
-    Some(image)
-}
 
 #[test]
 fn reports() {
     let mut seen = Tally::new();
     for (case, mut random) in cases(400) {
-        let image = any_image(&mut random);
+        let image = generate::image_file(&mut random);
         let memory = image.as_ref().map_or(0, Vec::len) as u32;
-        let list = list(&mut random, memory);
+        let list = generate::list(&mut random, memory);
         let expected = report(image.as_deref(), &list);
         let found = programs::replay(&list, image.as_deref());
         if expected.as_bytes() != found {
@@ -123,6 +81,103 @@ fn asid_then_root() {
         "5,read,ok,401",
         "6,root,ok,0",
         "7,read,refused,10",
+    ];
+    assert_eq!(found, expected);
+}
+
+/// As above, but of page 1 one map or both have nG clear: its old entry then stands in the global
+/// set, or the new one does, and it is stale under the new context all the same. A flush of that
+/// context helps only where no global entry is left over.
+#[test]
+fn asid_then_root_with_global_pages() {
+    for (old, new, answers) in [
+        (0x3032, 0x4032, ["refused,10", "refused,10", "refused,10"]),
+        (0x3032, 0x4832, ["refused,10", "refused,10", "refused,10"]),
+        (0x3832, 0x4032, ["refused,10", "ok,0", "refused,10"]),
+        (0x3832, 0x3032, ["refused,10", "ok,0", "refused,10"]),
+        (0x3032, 0x3032, ["ok,0", "ok,0", "ok,0"]),
+    ] {
+        let first = [(0x0, 0x401), (0x400, 0x832), (0x404, old)];
+        let second = [(0x80, 0x801), (0x800, 0x832), (0x804, new)];
+        let image = image(&[first, second].concat());
+        let found = lines(
+            &image,
+            "asid,1,0,0\nroot,80,0,0\nread,1000,4,0\nctx,1,0,0\nread,1000,4,0\nasid,0,0,0\n\
+             read,1000,4,0\n",
+        );
+        let [switched, flushed, back] = answers;
+        let expected = [
+            "2,asid,ok,0".to_string(),
+            "3,root,ok,0".to_string(),
+            format!("4,read,{switched}"),
+            "5,ctx,ok,0".to_string(),
+            format!("6,read,{flushed}"),
+            "7,asid,ok,0".to_string(),
+            format!("8,read,{back}"),
+        ];
+        assert_eq!(found, expected, "{old:x} to {new:x}");
+    }
+}
+
+/// Page 1 turns from own to global or from global to own, and back: each set holds one entry, and
+/// the one of the other kind is left over until a flush that names it.
+#[test]
+fn a_page_turned_and_turned_back() {
+    for (old, new, flush, spares) in [
+        (0x3832, 0x3032, "addrctx,1000,7,0", "ctx,0,0,0"),
+        (0x3032, 0x3832, "ctx,0,0,0", "addrctx,1000,7,0"),
+    ] {
+        let image = image(&[(0x0, 0x401), (0x400, 0x832), (0x404, old)]);
+        let found = lines(
+            &image,
+            &format!(
+                "write,404,4,{new:x}\nread,1000,4,0\nwrite,404,4,{old:x}\nread,1000,4,0\n\
+                 {spares}\nread,1000,4,0\n{flush}\nread,1000,4,0\n"
+            ),
+        );
+        let name = |line: &'static str| line.split(',').next().unwrap_or_default();
+        let expected = [
+            "2,write,ok,0".to_string(),
+            "3,read,refused,10".to_string(),
+            "4,write,ok,0".to_string(),
+            "5,read,refused,10".to_string(),
+            format!("6,{},ok,0", name(spares)),
+            "7,read,refused,10".to_string(),
+            format!("8,{},ok,0", name(flush)),
+            "9,read,ok,0".to_string(),
+        ];
+        assert_eq!(found, expected, "{old:x} to {new:x}");
+    }
+}
+
+/// A global section at 0 split into 256 pages alike that are global too, in context 1: stale in every
+/// context by the global set, page by page until `addr` or `addrctx`.
+#[test]
+fn a_global_section_split() {
+    let pages: Vec<(usize, u32)> = (0..256)
+        .map(|page| (0x1000 + 4 * page as usize, page << 12 | 0x032))
+        .collect();
+    let level_one = [(0x0, 0x401), (0x400, 0x832), (0x4, 0xC02)];
+    let image = image(&[&level_one, &pages[..]].concat());
+    let found = lines(
+        &image,
+        "asid,1,0,0\nwrite,4,4,1001\nasid,2,0,0\nread,100000,4,0\nread,101000,4,0\n\
+         ctx,2,0,0\nread,100000,4,0\naddrctx,100000,0,0\nread,100000,4,0\nread,101000,4,0\n\
+         addr,101000,0,0\nread,101000,4,0\n",
+    );
+    let expected = [
+        "2,asid,ok,0",
+        "3,write,ok,0",
+        "4,asid,ok,0",
+        "5,read,refused,10",
+        "6,read,refused,10",
+        "7,ctx,ok,0",
+        "8,read,refused,10",
+        "9,addrctx,ok,0",
+        "a,read,ok,401",
+        "b,read,refused,10",
+        "c,addr,ok,0",
+        "d,read,ok,32",
     ];
     assert_eq!(found, expected);
 }

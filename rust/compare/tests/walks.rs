@@ -4,6 +4,10 @@ use model::generate;
 use model::random::Random;
 use model::walk::{fault, single_walk};
 
+/// The bits of an entry of a section, and of a global one.
+const SECTION: u32 = 1 << 8;
+const GLOBAL: u32 = 1 << 7;
+
 /// An image of a length that fits or does not, with descriptors that lead in and out of memory.
 fn image(random: &mut Random) -> Vec<u8> {
     let mut image = generate::image(random);
@@ -44,10 +48,16 @@ fn walks() {
                     folder.display()
                 );
             }
-            seen.add((found >> 32, if found >> 32 == 0 { 0 } else { found as u32 }));
+            let number = found as u32;
+            seen.add(match found >> 32 {
+                0 => (0, number & (SECTION | GLOBAL)),
+                other => (other, number),
+            });
         }
     }
     let faults = fault::OF_WALKS.map(|n| (1, n));
     let refusals = [13, 10, 8].map(|n| (2, n));
-    seen.must_have("walks", [(0, 0)].into_iter().chain(faults).chain(refusals));
+    let entries = [0, SECTION, GLOBAL, SECTION | GLOBAL].map(|bits| (0, bits));
+    let all = entries.into_iter().chain(faults).chain(refusals);
+    seen.must_have("walks", all);
 }

@@ -1,5 +1,5 @@
 //! The plain machine, which has no TLB, and a chip with a TLB of n places.
-use crate::machine::{effect, flushes, Answer, Operation, Registers, NOT_TRANSLATED};
+use crate::machine::{effect, flushes, Answer, Operation, Registers, Scope, NOT_TRANSLATED};
 use crate::random::Random;
 use crate::walk::{walk, Entry, Fault};
 
@@ -37,8 +37,28 @@ impl Plain {
     }
 }
 
-/// An entry held under a context and a page.
-pub type Held = (u32, u32, Entry);
+/// An entry held under the context that it was loaded in, and its page.
+#[derive(Clone, Copy, PartialEq, Eq, Debug)]
+pub struct Held {
+    pub context: u32,
+    pub page: u32,
+    pub entry: Entry,
+}
+
+impl Held {
+    pub fn scope(&self) -> Scope {
+        Scope::of(self.entry, self.context)
+    }
+
+    pub fn matches(&self, context: u32, page: u32) -> bool {
+        self.page == page && self.scope().serves(context)
+    }
+
+    /// Whether there is a context in which both match a page.
+    fn clashes(&self, other: &Held) -> bool {
+        self.matches(other.context, other.page) || other.matches(self.context, self.page)
+    }
+}
 
 /// The chip: a plain machine with places for entries.
 #[derive(Clone, Debug)]
@@ -55,12 +75,11 @@ impl Chip {
         }
     }
 
-    fn held(&self, page: u32) -> Option<Entry> {
+    /// What is held for a page in the current context.
+    pub fn held(&self, page: u32) -> Option<Held> {
         let context = self.plain.registers.context;
-        let mut found = self.places.iter().flatten();
-        found
-            .find(|(c, p, _)| (*c, *p) == (context, page))
-            .map(|(_, _, entry)| *entry)
+        let mut held = self.places.iter().flatten();
+        held.find(|held| held.matches(context, page)).copied()
     }
 
     /// Drops what a place holds.
@@ -68,14 +87,24 @@ impl Chip {
         self.places[place] = None;
     }
 
-    /// Loads the entry of a page that the tables map and that is not held, if a place is free.
+    /// Loads the entry of a page that the tables map, if a place is free and in no context an entry
+    /// held would match the page beside it.
     pub fn load(&mut self, page: u32) {
-        let free = self.places.iter().position(Option::is_none);
-        if let (Some(place), None, Ok(entry)) =
-            (free, self.held(page), self.plain.outcome(page << 12))
-        {
-            let context = self.plain.registers.context;
-            self.places[place] = Some((context, page, entry));
+        let Ok(entry) = self.plain.outcome(page << 12) else {
+            return;
+        };
+        let context = self.plain.registers.context;
+        let loaded = Held {
+            context,
+            page,
+            entry,
+        };
+        let mut held = self.places.iter().flatten();
+        if held.any(|other| other.clashes(&loaded)) {
+            return;
+        }
+        if let Some(place) = self.places.iter_mut().find(|place| place.is_none()) {
+            *place = Some(loaded);
         }
     }
 
@@ -95,14 +124,14 @@ impl Chip {
     pub fn step(&mut self, operation: &Operation) -> Answer {
         let outcome = if operation.is_access() {
             let held = self.held(operation.a >> 12);
-            held.map_or_else(|| self.plain.outcome(operation.a), Ok)
+            held.map_or_else(|| self.plain.outcome(operation.a), |held| Ok(held.entry))
         } else {
             NOT_TRANSLATED
         };
         let Plain { memory, registers } = &mut self.plain;
         let answer = effect(memory, registers, operation, outcome);
         for place in &mut self.places {
-            if place.is_some_and(|(context, page, _)| flushes(operation, context, page)) {
+            if place.is_some_and(|held| flushes(operation, held.scope(), held.page)) {
                 *place = None;
             }
         }

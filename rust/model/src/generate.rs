@@ -1,6 +1,6 @@
-//! Images and lists on which maps change often: stores to descriptors, roots and contexts switched,
-//! flushes of each kind.
-use crate::machine::{Kind, Operation};
+//! Images and lists on which maps change often: stores to descriptors, pages that turn from own to
+//! global and back, roots and contexts switched, flushes of each kind.
+use crate::machine::{Kind, Operation, KINDS};
 use crate::random::Random;
 
 /// Image A of the rules: 32,768 bytes, zero but for five words.
@@ -21,9 +21,14 @@ pub fn image_a() -> Vec<u8> {
 /// The bytes of memory in which the generated tables lie: a page of roots, then tables.
 const TABLES: u32 = 0x2000;
 
-/// A level-one word that maps a MiB by a section at 0, AP 3, nG set, and one that maps it page by
-/// page to the same frames with the same rights, by a table of generated images.
-const MIB: [u32; 2] = [0x2_0C02, EQUAL_PAGES | 1];
+/// nG of a section, and of a page.
+const NG_SECTION: u32 = 1 << 17;
+const NG_PAGE: u32 = 1 << 11;
+
+/// Level-one words that map a MiB to the same frames with the same rights: by a section at 0, AP 3,
+/// own or global, or page by page by a table of generated images, whose even pages are own and
+/// whose odd ones are global.
+const MIB: [u32; 3] = [0xC02 | NG_SECTION, 0xC02, EQUAL_PAGES | 1];
 const EQUAL_PAGES: u32 = 0x1C00;
 
 /// The pages that generated lists touch.
@@ -40,13 +45,14 @@ fn first(random: &mut Random) -> u32 {
     }
 }
 
-/// A level-two word: mostly a small page in memory or near its end.
+/// A level-two word: mostly a small page in memory or near its end, own or global.
 fn second(random: &mut Random, memory: u32) -> u32 {
     let frame = random.below(u64::from(memory / 4096) + 1) as u32;
     let rights = (random.word() & 0x230) | if random.one_in(4) { 0 } else { 0x30 };
+    let rest = rights | (random.word() & NG_PAGE);
     match random.below(10) {
-        0..=6 => frame << 12 | rights | 2 | (random.word() & 1),
-        7 => (random.word() & 0x1_0000) | rights | 1,
+        0..=6 => frame << 12 | rest | 2 | (random.word() & 1),
+        7 => (random.word() & 0x1_0000) | rest | 1,
         8 => random.word(),
         _ => 0,
     }
@@ -76,20 +82,25 @@ pub fn image(random: &mut Random) -> Vec<u8> {
     }
     // The first MiB of every root that lists use has a table whose first pages are the tables.
     for root in ROOTS {
-        put(root, 0x401 | (root & 0x80) << 4);
+        put(root, 0x401 | (root & 0x80) << 5);
     }
     for table in [0x400, 0x400 + 0x1000] {
-        put(table, 0x032);
-        put(table + 4, 0x1032);
+        put(table, 0x032 | random.word() & NG_PAGE);
+        put(table + 4, 0x1032 | random.word() & NG_PAGE);
     }
     for page in 0..256 {
-        put(EQUAL_PAGES + 4 * page, page << 12 | 0x832);
+        let kind = if page % 2 == 0 { NG_PAGE } else { 0 };
+        put(EQUAL_PAGES + 4 * page, page << 12 | 0x032 | kind);
     }
     bytes
 }
 
 /// The roots that lists use.
 pub const ROOTS: [u32; 3] = [0, 0x80, 0x100];
+
+fn op(kind: Kind, a: u32, b: u32, c: u32) -> Operation {
+    Operation { kind, a, b, c }
+}
 
 /// An operation on a machine with this many contexts and this much memory.
 pub fn operation(random: &mut Random, contexts: u32, memory: u32) -> Operation {
@@ -98,7 +109,6 @@ pub fn operation(random: &mut Random, contexts: u32, memory: u32) -> Operation {
     let context = random.below(u64::from(contexts)) as u32;
     let size = *random.pick(&[1, 2, 4, 4, 4, 4]);
     let aligned = at / size * size;
-    let op = |kind, a, b, c| Operation { kind, a, b, c };
     match random.below(24) {
         0..=4 => op(Kind::Read, aligned, size, 0),
         5 => op(Kind::Read, at, size, 0),
@@ -113,11 +123,8 @@ pub fn operation(random: &mut Random, contexts: u32, memory: u32) -> Operation {
         13 => op(Kind::Root, *random.pick(&ROOTS), 0, 0),
         14 => op(Kind::Asid, context, 0, 0),
         15 => op(Kind::Mode, u32::from(random.one_in(3)), 0, 0),
-        16 => op(Kind::All, 0, 0, 0),
-        17 => op(Kind::Addr, at, 0, 0),
-        18 => op(Kind::Ctx, context, 0, 0),
-        19 => op(Kind::AddrCtx, at, context, 0),
-        // Splits a section into equal pages, or joins them.
+        16..=19 => flush(random, at, context),
+        // Splits a section into equal pages or joins them, or turns a section's pages.
         _ => {
             let at = *random.pick(&ROOTS) + *random.pick(&[4, 4, 8, 0xC]);
             op(Kind::Write, at, 4, *random.pick(&MIB))
@@ -125,9 +132,70 @@ pub fn operation(random: &mut Random, contexts: u32, memory: u32) -> Operation {
     }
 }
 
-/// The same with something wrong now and then: sizes, addresses, values, contexts, roots, modes.
-pub fn damaged(random: &mut Random, contexts: u32, memory: u32) -> Operation {
-    let mut o = operation(random, contexts, memory);
+/// A flush that names everything, this page, this context or both.
+fn flush(random: &mut Random, at: u32, context: u32) -> Operation {
+    match random.below(4) {
+        0 => op(Kind::All, 0, 0, 0),
+        1 => op(Kind::Addr, at, 0, 0),
+        2 => op(Kind::Ctx, context, 0, 0),
+        _ => op(Kind::AddrCtx, at, context, 0),
+    }
+}
+
+/// A level-two word of page 2: none, or one of two frames, own or global.
+fn second_of_page_2(random: &mut Random) -> u32 {
+    let frame = *random.pick(&[2, 3]);
+    match random.below(5) {
+        0 => 0,
+        n => frame << 12 | 0x032 | if n % 2 == 0 { NG_PAGE } else { 0 },
+    }
+}
+
+/// A page mapped and mapped anew, then read: between these steps the context may change, and the
+/// page, a context or both may be flushed. Page 2 by its level-two word, or a page of the second
+/// MiB by its level-one word.
+fn turn(random: &mut Random, contexts: u32) -> Vec<Operation> {
+    let by_table = random.one_in(2);
+    let (page, at) = if by_table {
+        (2, *random.pick(&[0x408, 0x408, 0x1408]))
+    } else {
+        (256 + random.below(2) as u32, 4 + *random.pick(&ROOTS))
+    };
+    let mut list = Vec::new();
+    for step in 0..3 {
+        if step > 0 && random.one_in(2) {
+            let context = random.below(u64::from(contexts)) as u32;
+            list.push(flush(random, page << 12, context));
+        }
+        if random.one_in(2) {
+            let context = random.below(u64::from(contexts)) as u32;
+            list.push(op(Kind::Asid, context, 0, 0));
+        }
+        list.push(match (step, by_table) {
+            (2, _) => op(Kind::Read, page << 12, 4, 0),
+            (_, true) => op(Kind::Write, at, 4, second_of_page_2(random)),
+            (_, false) => op(Kind::Write, at, 4, *random.pick(&MIB)),
+        });
+    }
+    list
+}
+
+/// At least this many operations, with pages that turn among them.
+pub fn operations(random: &mut Random, contexts: u32, memory: u32, least: u64) -> Vec<Operation> {
+    let mut list = Vec::new();
+    while (list.len() as u64) < least {
+        if random.one_in(8) {
+            list.extend(turn(random, contexts));
+        } else {
+            list.push(operation(random, contexts, memory));
+        }
+    }
+    list
+}
+
+/// The same operation with something wrong now and then: sizes, addresses, values, contexts, roots,
+/// modes.
+pub fn damaged(random: &mut Random, contexts: u32, mut o: Operation) -> Operation {
     match random.below(12) {
         0 => o.a = random.word(),
         1 => o.b = *random.pick(&[0, 3, 5, 8, contexts, contexts + 1, u32::MAX]),
@@ -142,8 +210,51 @@ pub fn damaged(random: &mut Random, contexts: u32, memory: u32) -> Operation {
 pub fn text(operations: &[Operation]) -> Vec<u8> {
     let mut list = String::from("op,a,b,c\n");
     for o in operations {
-        let name = crate::machine::KINDS[o.kind as usize].1;
+        let name = KINDS[o.kind as usize].1;
         list.push_str(&format!("{name},{:x},{:x},{:x}\n", o.a, o.b, o.c));
     }
     list.into_bytes()
+}
+
+/// A list for the program, which has 8 contexts, and sometimes something wrong with its bytes.
+pub fn list(random: &mut Random, memory: u32) -> Vec<u8> {
+    let length = random.below(120);
+    let mut list = operations(random, 8, memory, length);
+    for o in &mut list {
+        *o = damaged(random, 8, *o);
+        // Unused fields are 0 in the text of most lists.
+        let (_, _, used) = KINDS[o.kind as usize];
+        let mut fields = [o.a, o.b, o.c];
+        if !random.one_in(60) {
+            fields[used..].fill(0);
+        }
+        [o.a, o.b, o.c] = fields;
+    }
+    let mut bytes = text(&list);
+    // The line of names has 9 bytes.
+    let within = if random.one_in(6) { 9 } else { bytes.len() };
+    let at = random.below(within as u64) as usize;
+    match random.below(16) {
+        0 => bytes[at] = random.word() as u8,
+        1 => bytes[at] = *random.pick(b",\n0Aafgx-+ "),
+        2 => bytes.insert(at, *random.pick(b",\n0Aaf1")),
+        3 => bytes.truncate(at),
+        4 => drop(bytes.remove(at)),
+        5 => bytes.resize(65_537 + random.below(3) as usize, b'\n'),
+        _ => (),
+    }
+    bytes
+}
+
+/// An image file for the program: missing, cut off or too long now and then.
+pub fn image_file(random: &mut Random) -> Option<Vec<u8>> {
+    let mut image = image(random);
+    match random.below(30) {
+        0 => return None,
+        1 => image.truncate(random.below(9000) as usize),
+        2 => image.resize(32_769, 0),
+        3 => image.resize(32_768, 0),
+        _ => (),
+    }
+    Some(image)
 }

@@ -1,5 +1,5 @@
 //! The machine: registers, what a TLB may remember, and the operations with their checks.
-use crate::walk::{fault, number, walk, word, Entry, Fault};
+use crate::walk::{entry_of, fault, number, walk, word, Entry, Fault};
 use std::collections::{BTreeMap, BTreeSet};
 
 #[derive(Clone, Copy, PartialEq, Eq, PartialOrd, Ord, Debug)]
@@ -128,19 +128,41 @@ fn access(
     Ok(0)
 }
 
-/// Whether a flush names what is remembered under a context and a page.
-pub fn flushes(operation: &Operation, context: u32, page: u32) -> bool {
+/// Whom an entry serves: the context that it was noted or loaded in, or all of them.
+#[derive(Clone, Copy, PartialEq, Eq, PartialOrd, Ord, Debug)]
+pub enum Scope {
+    Context(u32),
+    Global,
+}
+
+impl Scope {
+    /// That of an entry which is noted or loaded in a context.
+    pub fn of(entry: Entry, context: u32) -> Scope {
+        if entry.global {
+            Scope::Global
+        } else {
+            Scope::Context(context)
+        }
+    }
+
+    pub fn serves(self, context: u32) -> bool {
+        self == Scope::Global || self == Scope::Context(context)
+    }
+}
+
+/// Whether a flush names what is remembered in a scope for a page.
+pub fn flushes(operation: &Operation, scope: Scope, page: u32) -> bool {
     let same_page = operation.a >> 12 == page;
     match operation.kind {
         Kind::All => true,
         Kind::Addr => same_page,
-        Kind::Ctx => operation.a == context,
-        Kind::AddrCtx => same_page && operation.b == context,
+        Kind::Ctx => scope == Scope::Context(operation.a),
+        Kind::AddrCtx => same_page && scope.serves(operation.b),
         _ => false,
     }
 }
 
-/// What a TLB may remember for one context and page.
+/// What a TLB may remember for one page, in one context or for all of them.
 #[derive(Clone, PartialEq, Eq, Debug)]
 pub enum Remembered {
     These(BTreeSet<Entry>),
@@ -154,25 +176,36 @@ pub struct Machine {
     pub memory: Vec<u8>,
     pub registers: Registers,
     words: usize,
-    sets: BTreeMap<(u32, u32), Remembered>,
+    sets: BTreeMap<(Scope, u32), Remembered>,
+}
+
+/// The rows of a track with this many words: one for each context, then the global one.
+fn rows(words: usize) -> impl Iterator<Item = Scope> {
+    let whole = words / 1024;
+    let row = move |i| {
+        if i + 1 == whole {
+            Scope::Global
+        } else {
+            Scope::Context(i as u32)
+        }
+    };
+    // What is left of a length that does not fit is a row like others.
+    (0..words.div_ceil(1024)).map(row)
 }
 
 impl Machine {
     /// A machine on lent memory, track and registers, whatever they are.
     pub fn lent(memory: &[u8], track: &[u32], registers: Registers) -> Machine {
         let mut sets = BTreeMap::new();
-        for (i, &found) in track.iter().enumerate() {
-            let entry = Entry {
-                frame: found >> 12,
-                ap: found >> 9 & 7,
-                section: found >> 8 & 1 == 1,
-            };
-            let remembered = match found {
-                0 => continue,
-                _ if found == word(entry) => Remembered::These(BTreeSet::from([entry])),
-                _ => Remembered::Several(found),
-            };
-            sets.insert(((i / 1024) as u32, (i % 1024) as u32), remembered);
+        for (scope, row) in rows(track.len()).zip(track.chunks(1024)) {
+            let suits = |entry: &Entry| entry.global == (scope == Scope::Global);
+            for (page, &found) in (0..).zip(row).filter(|(_, found)| **found != 0) {
+                let remembered = match entry_of(found).filter(suits) {
+                    Some(entry) => Remembered::These(BTreeSet::from([entry])),
+                    None => Remembered::Several(found),
+                };
+                sets.insert((scope, page), remembered);
+            }
         }
         Machine {
             memory: memory.to_vec(),
@@ -185,21 +218,28 @@ impl Machine {
     /// The track as words.
     pub fn track(&self) -> Vec<u32> {
         let mut words = vec![0; self.words];
-        for (&(context, page), remembered) in &self.sets {
-            words[context as usize * 1024 + page as usize] = match remembered {
-                Remembered::Several(found) => *found,
-                Remembered::These(set) if set.len() == 1 => set.first().map_or(0, |e| word(*e)),
-                Remembered::These(set) if set.is_empty() => 0,
-                Remembered::These(_) => 1,
-            };
+        for (scope, row) in rows(self.words).zip(words.chunks_mut(1024)) {
+            for (&(_, page), remembered) in self.sets.range((scope, 0)..=(scope, 1023)) {
+                row[page as usize] = match remembered {
+                    Remembered::Several(found) => *found,
+                    Remembered::These(set) if set.len() == 1 => set.first().map_or(0, |e| word(*e)),
+                    Remembered::These(set) if set.is_empty() => 0,
+                    Remembered::These(_) => 1,
+                };
+            }
         }
         words
+    }
+
+    /// How many contexts there are, by the length of the track: its rows but the global one.
+    fn contexts(&self) -> u32 {
+        (self.words / 1024).saturating_sub(1) as u32
     }
 
     fn lengths_fit(&self) -> bool {
         let memory = self.memory.len();
         let whole = memory.is_multiple_of(4096) && self.words.is_multiple_of(1024);
-        whole && (4096..=16_777_216).contains(&memory) && (1..=256).contains(&(self.words / 1024))
+        whole && (4096..=16_777_216).contains(&memory) && (1..=256).contains(&self.contexts())
     }
 
     /// A start: the answer, and the machine afterwards.
@@ -226,7 +266,7 @@ impl Machine {
             if let Ok(entry) = self.outcome(page << 12) {
                 let remembered = self
                     .sets
-                    .entry((self.registers.context, page))
+                    .entry((Scope::of(entry, self.registers.context), page))
                     .or_insert_with(|| Remembered::These(BTreeSet::new()));
                 if let Remembered::These(set) = remembered {
                     set.insert(entry);
@@ -235,19 +275,32 @@ impl Machine {
         }
     }
 
-    pub fn is_stale(&self, address: u32) -> bool {
+    /// Whether the set of a page in one scope holds an entry other than the present outcome.
+    fn is_stale_in(&self, scope: Scope, address: u32) -> bool {
         let present = self.outcome(address).ok();
-        match self.sets.get(&(self.registers.context, address >> 12)) {
+        match self.sets.get(&(scope, address >> 12)) {
             None => false,
             Some(Remembered::Several(_)) => true,
             Some(Remembered::These(set)) => set.iter().any(|e| Some(*e) != present),
         }
     }
 
+    /// The scopes whose sets make a page stale: the current context's, the global one, or both.
+    pub fn stale_in(&self, address: u32) -> Vec<Scope> {
+        [Scope::Context(self.registers.context), Scope::Global]
+            .into_iter()
+            .filter(|scope| self.is_stale_in(*scope, address))
+            .collect()
+    }
+
+    pub fn is_stale(&self, address: u32) -> bool {
+        !self.stale_in(address).is_empty()
+    }
+
     /// The numbers whose conditions hold before an access is looked at, in the order of the rules.
     pub fn conditions(&self, operation: &Operation) -> Vec<u32> {
         let Operation { kind, a, b, c } = *operation;
-        let contexts = (self.words / 1024) as u64;
+        let contexts = self.contexts();
         let r = &self.registers;
         let access = operation.is_access();
         let flush_address = matches!(kind, Kind::Addr | Kind::AddrCtx);
@@ -256,7 +309,7 @@ impl Machine {
             Kind::AddrCtx => Some(b),
             _ => None,
         };
-        let held = r.root.is_multiple_of(0x80) && u64::from(r.context) < contexts && r.mode < 2;
+        let held = r.root.is_multiple_of(0x80) && r.context < contexts && r.mode < 2;
         let large = matches!(b, 1 | 2) && u64::from(c) >= 1 << (8 * b);
         [
             (13, !self.lengths_fit()),
@@ -265,7 +318,7 @@ impl Machine {
             (8, (access || flush_address) && a >= 0x40_0000),
             (9, kind == Kind::Write && large),
             (10, kind == Kind::Root && !a.is_multiple_of(0x80)),
-            (11, context.is_some_and(|n| u64::from(n) >= contexts)),
+            (11, context.is_some_and(|n| n >= contexts)),
             (12, kind == Kind::Mode && a > 1),
             (15, r.mode == 1 && !access && kind != Kind::Mode),
         ]
@@ -287,7 +340,7 @@ impl Machine {
         };
         let answer = effect(&mut self.memory, &mut self.registers, operation, outcome);
         self.sets
-            .retain(|&(context, page), _| !flushes(operation, context, page));
+            .retain(|&(scope, page), _| !flushes(operation, scope, page));
         self.note();
         answer
     }

@@ -10,6 +10,8 @@ pub struct Entry {
     pub ap: u32,
     /// Whether a section maps it, and not a page.
     pub section: bool,
+    /// Whether nG is clear, so that it serves every context.
+    pub global: bool,
 }
 
 /// Why an operation carried out gave no value: a short-descriptor fault status code.
@@ -75,6 +77,7 @@ pub fn walk(memory: &[u8], root: u32, address: u32) -> Result<Entry, Fault> {
                 frame: physical >> 12,
                 ap,
                 section: true,
+                global: bits(first, 17..=17) == 0,
             })
         }
         _ => Err(fault::UNMAPPED_FIRST),
@@ -92,12 +95,25 @@ fn page(second: u32, address: u32) -> Result<Entry, Fault> {
         frame: physical >> 12,
         ap,
         section: false,
+        global: bits(second, 11..=11) == 0,
     })
 }
 
 /// The track word of one entry.
 pub fn word(entry: Entry) -> u32 {
-    entry.frame << 12 | entry.ap << 9 | u32::from(entry.section) << 8 | 2
+    let flags = u32::from(entry.section) << 8 | u32::from(entry.global) << 7;
+    entry.frame << 12 | entry.ap << 9 | flags | 2
+}
+
+/// The entry that a word is for, if it is the track word of one.
+pub fn entry_of(found: u32) -> Option<Entry> {
+    let entry = Entry {
+        frame: bits(found, 12..=31),
+        ap: bits(found, 9..=11),
+        section: bits(found, 8..=8) == 1,
+        global: bits(found, 7..=7) == 1,
+    };
+    (word(entry) == found).then_some(entry)
 }
 
 /// The walk as the C function answers it.

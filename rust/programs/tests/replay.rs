@@ -26,6 +26,57 @@ fn the_listing() {
     assert_eq!(lines(&format!("{NAMES}{list}")), report);
 }
 
+/// Image A with page 1 global: with nG clear in its level-two word at 0x404.
+fn image_with_a_global_page() -> Vec<u8> {
+    let mut image = image_a();
+    image[0x404..0x408].copy_from_slice(&0x3032_u32.to_le_bytes());
+    image
+}
+
+/// What is printed for a list on that image.
+fn lines_with_a_global_page(list: &str) -> String {
+    let list = format!("{NAMES}{list}");
+    behind_header(&replay(list.as_bytes(), Some(&image_with_a_global_page())))
+}
+
+/// A global page mapped anew, still global: a flush of the current context spares the old entry, one
+/// of the page drops it, whichever context it names.
+#[test]
+fn which_flush_frees_a_global_page() {
+    let found = lines_with_a_global_page(
+        "read,1000,4,0\nwrite,404,4,4032\nread,1000,4,0\nctx,0,0,0\nread,1000,4,0\n\
+         addrctx,2000,0,0\nread,1000,4,0\naddrctx,1000,5,0\nread,1000,4,0\nasid,5,0,0\n\
+         read,1000,4,0\n",
+    );
+    let expected = "2,read,ok,12345678\n3,write,ok,0\n4,read,refused,10\n5,ctx,ok,0\n\
+                    6,read,refused,10\n7,addrctx,ok,0\n8,read,refused,10\n9,addrctx,ok,0\n\
+                    a,read,ok,11223344\nb,asid,ok,0\nc,read,ok,11223344\n";
+    assert_eq!(found, expected);
+}
+
+/// A global page no longer mapped is stale in a context that never saw it, until it is flushed.
+#[test]
+fn a_global_page_unmapped() {
+    let found = lines_with_a_global_page(
+        "write,404,4,0\nasid,1,0,0\nread,1000,4,0\nctx,1,0,0\nread,1000,4,0\n\
+         addr,1000,0,0\nread,1000,4,0\nasid,0,0,0\nread,1000,4,0\n",
+    );
+    let expected = "2,write,ok,0\n3,asid,ok,0\n4,read,refused,10\n5,ctx,ok,0\n\
+                    6,read,refused,10\n7,addr,ok,0\n8,read,fault,7\n9,asid,ok,0\n\
+                    a,read,fault,7\n";
+    assert_eq!(found, expected);
+}
+
+/// With nG set, the same list ends otherwise: the entry stands in context 0 alone.
+#[test]
+fn an_own_page_unmapped() {
+    let list = "write,404,4,0\nasid,1,0,0\nread,1000,4,0\nasid,0,0,0\nread,1000,4,0\n\
+                ctx,0,0,0\nread,1000,4,0\n";
+    let expected = "2,write,ok,0\n3,asid,ok,0\n4,read,fault,7\n5,asid,ok,0\n\
+                    6,read,refused,10\n7,ctx,ok,0\n8,read,fault,7\n";
+    assert_eq!(lines(&format!("{NAMES}{list}")), expected);
+}
+
 #[test]
 fn the_empty_list_and_names_alone() {
     assert_eq!(lines(""), "1,-,refused,2\n");

@@ -1,5 +1,5 @@
 //! A straightforward program that does what `replay` does, the same way: it re-reads every page
-//! after each operation. How a row is noted is a parameter: page by page, as anyone would write it
+//! after each operation. How the rows are noted is a parameter: page by page, as anyone would write it
 //! first, or MiB by MiB, which is the idea of `replay`. The benchmarks time them side by side.
 use std::fs;
 use std::io::{self, Read, Write};
@@ -34,8 +34,12 @@ enum Answer {
     Refused(u32),
 }
 
-/// How a row of words is noted, by memory and the root.
-pub type Note = fn(&[u8], u32, &mut [u32]);
+/// How the row of a context and the global row are noted, by memory and the root.
+pub type Note = fn(&[u8], u32, &mut [u32], &mut [u32]);
+
+/// The contexts, and the words of their rows, behind which the global row stands.
+const CONTEXTS: u32 = 8;
+const OWN: usize = CONTEXTS as usize * 1024;
 
 struct Machine {
     memory: Vec<u8>,
@@ -54,6 +58,9 @@ fn load(memory: &[u8], at: usize) -> Option<u32> {
 /// The bit of a track word that tells an entry of a section.
 const SECTION: u32 = 1 << 8;
 
+/// The bit of a track word that tells a global entry.
+const GLOBAL: u32 = 1 << 7;
+
 /// Whether a level-one word points to a table.
 fn is_table(first: u32) -> bool {
     first & 3 == 1
@@ -67,7 +74,8 @@ fn is_section(first: u32) -> bool {
 /// The track word of a section's page.
 fn section(first: u32, page: usize) -> u32 {
     let ap = first >> 13 & 4 | first >> 10 & 3;
-    first & 0xFFF0_0000 | (page as u32 & 0xFF) << 12 | ap << 9 | SECTION | 2
+    let global = !first >> 10 & GLOBAL;
+    first & 0xFFF0_0000 | (page as u32 & 0xFF) << 12 | ap << 9 | SECTION | global | 2
 }
 
 /// The track word of a page by the table of a level-one word, or its fault.
@@ -75,10 +83,11 @@ fn by_table(memory: &[u8], first: u32, page: usize) -> Result<u32, u32> {
     let table = (first & !0x3FF) as usize;
     let second = load(memory, table + 4 * (page & 0xFF)).ok_or(0xE_u32)?;
     let ap = second >> 7 & 4 | second >> 4 & 3;
+    let global = !second >> 4 & GLOBAL;
     match second & 3 {
         0 => Err(7),
-        1 => Ok(second & 0xFFFF_0000 | (page as u32 & 0xF) << 12 | ap << 9 | 2),
-        _ => Ok(second & 0xFFFF_F000 | ap << 9 | 2),
+        1 => Ok(second & 0xFFFF_0000 | (page as u32 & 0xF) << 12 | ap << 9 | global | 2),
+        _ => Ok(second & 0xFFFF_F000 | ap << 9 | global | 2),
     }
 }
 
@@ -94,40 +103,43 @@ fn walk(memory: &[u8], root: u32, page: usize) -> Result<u32, u32> {
     Err(5)
 }
 
-/// Adds an entry to a page's set.
-fn add(word: &mut u32, entry: u32) {
+/// Adds an entry to a page's set, in the row to which it belongs. A word that is not for one entry
+/// of that row stays.
+fn add(own: &mut u32, global: &mut u32, entry: u32) {
+    let word = if entry & GLOBAL == 0 { own } else { global };
     if *word == 0 {
         *word = entry;
-    } else if *word != entry && *word & 0xFF == 2 {
+    } else if *word != entry && *word & 0xFF == entry & 0xFF {
         *word = 1;
     }
 }
 
-/// Notes a row page by page: each page is walked from level one.
-pub fn by_page(memory: &[u8], root: u32, row: &mut [u32]) {
-    for (page, word) in row.iter_mut().enumerate() {
+/// Notes the rows page by page: each page is walked from level one.
+pub fn by_page(memory: &[u8], root: u32, own: &mut [u32], global: &mut [u32]) {
+    for (page, (own, global)) in own.iter_mut().zip(global).enumerate() {
         if let Ok(entry) = walk(memory, root, page) {
-            add(word, entry);
+            add(own, global, entry);
         }
     }
 }
 
-/// Notes a row MiB by MiB: the level-one word is read once for the 256 pages that share it.
-pub fn by_mib(memory: &[u8], root: u32, row: &mut [u32]) {
-    for (mib, words) in row.chunks_mut(256).enumerate() {
+/// Notes the rows MiB by MiB: the level-one word is read once for the 256 pages that share it.
+pub fn by_mib(memory: &[u8], root: u32, own: &mut [u32], global: &mut [u32]) {
+    let mibs = own.chunks_mut(256).zip(global.chunks_mut(256));
+    for (mib, (own, global)) in mibs.enumerate() {
         let Some(first) = load(memory, root as usize + 4 * mib) else {
             continue;
         };
-        let words = words.iter_mut().enumerate();
+        let words = own.iter_mut().zip(global).enumerate();
         if is_table(first) {
-            for (page, word) in words {
+            for (page, (own, global)) in words {
                 if let Ok(entry) = by_table(memory, first, page) {
-                    add(word, entry);
+                    add(own, global, entry);
                 }
             }
         } else if is_section(first) {
-            for (page, word) in words {
-                add(word, section(first, page));
+            for (page, (own, global)) in words {
+                add(own, global, section(first, page));
             }
         }
     }
@@ -135,13 +147,12 @@ pub fn by_mib(memory: &[u8], root: u32, row: &mut [u32]) {
 
 impl Machine {
     fn noting(&mut self) {
-        let start = self.context as usize * 1024;
-        let row = &mut self.track[start..start + 1024];
-        (self.note)(&self.memory, self.root, row);
+        let (contexts, global) = self.track.split_at_mut(OWN);
+        let own = &mut contexts[self.context as usize * 1024..][..1024];
+        (self.note)(&self.memory, self.root, own, global);
     }
 
     fn refused(&self, kind: usize, [a, b, c]: [u32; 3]) -> Option<u32> {
-        let contexts = (self.track.len() / 1024) as u32;
         let access = kind < 2;
         if access && b != 1 && b != 2 && b != 4 {
             return Some(7);
@@ -155,7 +166,7 @@ impl Machine {
         if kind == 2 && !a.is_multiple_of(0x80) {
             return Some(10);
         }
-        if (kind == 3 || kind == 7) && a >= contexts || kind == 8 && b >= contexts {
+        if (kind == 3 || kind == 7) && a >= CONTEXTS || kind == 8 && b >= CONTEXTS {
             return Some(11);
         }
         if kind == 4 && a > 1 {
@@ -173,8 +184,10 @@ impl Machine {
         }
         let page = (a >> 12) as usize;
         let outcome = walk(&self.memory, self.root, page);
-        let word = self.track[self.context as usize * 1024 + page];
-        if word != 0 && outcome != Ok(word) {
+        let own = self.track[self.context as usize * 1024 + page];
+        let global = self.track[OWN + page];
+        let stale = |word| word != 0 && outcome != Ok(word);
+        if stale(own) || stale(global) {
             return Answer::Refused(16);
         }
         let entry = match outcome {
@@ -220,7 +233,11 @@ impl Machine {
                     .for_each(|w| *w = 0);
             }
             7 => self.track[a as usize * 1024..][..1024].fill(0),
-            _ => self.track[b as usize * 1024 + (a >> 12) as usize] = 0,
+            _ => {
+                let page = (a >> 12) as usize;
+                self.track[b as usize * 1024 + page] = 0;
+                self.track[OWN + page] = 0;
+            }
         }
         if !matches!(answer, Answer::Refused(_)) {
             self.noting();
@@ -254,7 +271,7 @@ fn read_line(text: &[u8]) -> Result<(usize, [u32; 3]), u32> {
         return Err(4);
     };
     let kind = NAMES.iter().position(|(n, _)| n.as_bytes() == name);
-    let kind = kind.ok_or(0xC_u32)?;
+    let kind = kind.ok_or(5_u32)?;
     let fields = [a, b, c];
     if fields[NAMES[kind].1..].iter().any(|field| *field != 0) {
         return Err(6);
@@ -287,7 +304,8 @@ fn carry_out(machine: &mut Machine, mut rest: &[u8], out: &mut Vec<u8>) {
     }
 }
 
-fn report(mut image: Vec<u8>, list: &[u8], note: Note) -> Vec<u8> {
+/// The report of a list on the bytes of an image file.
+pub fn report(mut image: Vec<u8>, list: &[u8], note: Note) -> Vec<u8> {
     let mut out = Vec::from("line,op,answer,value\n");
     if image.len() > 32_768 {
         image.clear();
@@ -306,7 +324,7 @@ fn report(mut image: Vec<u8>, list: &[u8], note: Note) -> Vec<u8> {
     };
     let mut machine = Machine {
         memory: image,
-        track: vec![0; 8 * 1024],
+        track: vec![0; OWN + 1024],
         root: 0,
         context: 0,
         mode: 0,

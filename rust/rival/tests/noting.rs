@@ -1,15 +1,20 @@
-//! The two ways of noting a row against each other and against the model's walk, on generated images.
+//! The two ways of noting the rows against each other and against the model's walk, on generated
+//! images.
 use model::generate;
 use model::random::Random;
-use model::walk::{walk, word};
+use model::walk::{walk, word, Entry};
 
-/// A word that a row may hold: none, an entry, several entries, or what the page maps to.
-fn held(random: &mut Random, now: Option<u32>) -> u32 {
+/// The bit of a global entry.
+const GLOBAL: u32 = 0x80;
+
+/// A word that a row may hold: none, an entry of that row, several entries, or what the page maps
+/// to if it belongs there.
+fn held(random: &mut Random, now: Option<u32>, bit: u32) -> u32 {
     match random.below(4) {
         0 => 0,
         1 => 1,
         2 => now.unwrap_or(0),
-        _ => random.word() & !0xFF | 2,
+        _ => random.word() & !0xFF | bit | 2,
     }
 }
 
@@ -23,9 +28,20 @@ fn noted(held: u32, now: Option<u32>) -> u32 {
     }
 }
 
+/// A row as it is found and as it has to be left, by the entries that belong to it.
+fn row(random: &mut Random, now: &[Option<Entry>], global: bool) -> (Vec<u32>, Vec<u32>) {
+    let bit = if global { GLOBAL } else { 0 };
+    let belongs = |now: &Option<Entry>| now.filter(|e| e.global == global).map(word);
+    let found: Vec<u32> = now.iter().map(|n| held(random, belongs(n), bit)).collect();
+    let left = found.iter().zip(now).map(|(w, n)| noted(*w, belongs(n)));
+    let left = left.collect();
+    (found, left)
+}
+
 #[test]
 fn rows() {
     let mut outside = 0;
+    let mut both = 0;
     for case in 0..400 {
         let mut random = Random::new(case);
         let mut image = generate::image(&mut random);
@@ -35,19 +51,26 @@ fn rows() {
             image.truncate(4 * random.below(0x800) as usize + random.below(4) as usize);
             outside += 1;
         }
-        let now: Vec<Option<u32>> = (0..1024)
-            .map(|page| walk(&image, root, page << 12).ok().map(word))
+        let now: Vec<Option<Entry>> = (0..1024)
+            .map(|page| walk(&image, root, page << 12).ok())
             .collect();
-        let row: Vec<u32> = now.iter().map(|n| held(&mut random, *n)).collect();
-        let expected: Vec<u32> = row.iter().zip(&now).map(|(w, n)| noted(*w, *n)).collect();
+        let has = |global| now.iter().flatten().any(|e| e.global == global);
+        both += u32::from(has(false) && has(true));
+        let (own, own_left) = row(&mut random, &now, false);
+        let (global, global_left) = row(&mut random, &now, true);
         for (name, note) in [
             ("by page", rival::by_page as rival::Note),
             ("by MiB", rival::by_mib),
         ] {
-            let mut found = row.clone();
-            note(&image, root, &mut found);
-            assert!(found == expected, "case {case}, {name}: the rows differ");
+            let (mut own, mut global) = (own.clone(), global.clone());
+            note(&image, root, &mut own, &mut global);
+            assert!(own == own_left, "case {case}, {name}: own rows differ");
+            assert!(
+                global == global_left,
+                "case {case}, {name}: global rows differ"
+            );
         }
     }
     assert!(outside > 0, "no image ended in the middle of a table");
+    assert!(both > 0, "no image mapped own and global pages");
 }

@@ -6,14 +6,14 @@ use Rattle.access.proofs.access_at.Tie as tie
 use Rattle.access.proofs.access_at.Reads as reads
 use Rattle.access.proofs.access_at.Lts as lts
 use Rattle.access.proofs.decide.Reads as decide-reads
-use Rattle.track.proofs.word_at.Reads as word-at-reads
+use Rattle.track.proofs.is_stale_page.Reads as is-stale-page-reads
 use Rattle.walk.proofs.walk.Reads as walk-reads
 
 walk-requires : tie.Need-walk-requires
 walk-requires c κs = search needs
 
-word-at-requires : tie.Need-word-at-requires
-word-at-requires c κs = search needs
+is-stale-page-requires : tie.Need-is-stale-page-requires
+is-stale-page-requires c κs = search needs
 
 decide-requires : tie.Need-decide-requires
 decide-requires c κs = search needs
@@ -21,7 +21,7 @@ decide-requires c κs = search needs
 returns : tie.Need-returns
 unfolding accessAt
 returns c = let w = c .before in let o = w .before in
-    c .decide .ensures ∙ rw (w .word-at .ensures, o .walk .ensures)
+    c .decide .ensures ∙ rw (w .is-stale-page .ensures, o .walk .ensures)
 
 pub access-at-spec : {M : Type 1} → statement M
-access-at-spec = tie.close (tie.spec walk-requires word-at-requires decide-requires returns)
+access-at-spec = tie.close (tie.spec walk-requires is-stale-page-requires decide-requires returns)

@@ -1,4 +1,5 @@
-use Rattle.model.specs.step.Checks.{checks}
+use mathlib.Core.Path.{ap, _∙_}
+use Rattle.model.specs.step.Checks.{registersFit, contextFits, checks}
 use Rattle.checks.proofs.Laws.{passed, failed, none-left}
 use borrow.Author.Needs.{needs}
 use Rattle.checks.proofs.check.Statement.{statement}
@@ -7,6 +8,7 @@ use Rattle.checks.proofs.check.Reads as reads
 use Rattle.checks.proofs.check.Lts as lts
 use Rattle.checks.proofs.address_fits.Reads as address-fits-reads
 use Rattle.checks.proofs.context_fits.Reads as context-fits-reads
+use Rattle.limits.proofs.last_row.Reads as last-row-reads
 use Rattle.limits.proofs.lengths_fit.Reads as lengths-fit-reads
 use Rattle.checks.proofs.may_ask.Reads as may-ask-reads
 use Rattle.checks.proofs.mode_fits.Reads as mode-fits-reads
@@ -17,6 +19,9 @@ use Rattle.checks.proofs.value_fits.Reads as value-fits-reads
 
 lengths-fit-requires : tie.Need-lengths-fit-requires
 lengths-fit-requires c κs = search needs
+
+last-row-requires : tie.Need-last-row-requires
+last-row-requires c κs = search needs
 
 registers-fit-requires : tie.Need-registers-fit-requires
 registers-fit-requires c κs = search needs
@@ -46,33 +51,33 @@ returns : tie.Need-returns
 unfolding checks
 returns c = let f9 = c .before in let f8 = f9 .before in let f7 = f8 .before in let f6 = f7 .before in
     let f5 = f6 .before in let f4 = f5 .before in let f3 = f4 .before in let f2 = f3 .before in
-    let f1 = f2 .before in
+    let k = f2 .before in let f1 = k .before in
     failed _ _ (f1 .lengths-fit .ensures) (c .if1 .taken)
 
 returns-2 : tie.Need-returns-2
 unfolding checks
 returns-2 c = let i1 = c .before in let f9 = i1 .before in let f8 = f9 .before in let f7 = f8 .before in
     let f6 = f7 .before in let f5 = f6 .before in let f4 = f5 .before in let f3 = f4 .before in
-    let f2 = f3 .before in let f1 = f2 .before in
+    let f2 = f3 .before in let k = f2 .before in let f1 = k .before in
     passed _ _ (f1 .lengths-fit .ensures) (i1 .if1 .left) (
-    failed _ _ (f2 .registers-fit .ensures) (c .if2 .taken))
+    failed _ _ (f2 .registers-fit .ensures ∙ ap (registersFit _) (k .last-row .ensures)) (c .if2 .taken))
 
 returns-3 : tie.Need-returns-3
 unfolding checks
 returns-3 c = let i2 = c .before in let i1 = i2 .before in let f9 = i1 .before in let f8 = f9 .before in
     let f7 = f8 .before in let f6 = f7 .before in let f5 = f6 .before in let f4 = f5 .before in
-    let f3 = f4 .before in let f2 = f3 .before in let f1 = f2 .before in
+    let f3 = f4 .before in let f2 = f3 .before in let k = f2 .before in let f1 = k .before in
     passed _ _ (f1 .lengths-fit .ensures) (i1 .if1 .left) (
-    passed _ _ (f2 .registers-fit .ensures) (i2 .if2 .left) (
+    passed _ _ (f2 .registers-fit .ensures ∙ ap (registersFit _) (k .last-row .ensures)) (i2 .if2 .left) (
     failed _ _ (f3 .size-fits .ensures) (c .if3 .taken)))
 
 returns-4 : tie.Need-returns-4
 unfolding checks
 returns-4 c = let i3 = c .before in let i2 = i3 .before in let i1 = i2 .before in let f9 = i1 .before in
     let f8 = f9 .before in let f7 = f8 .before in let f6 = f7 .before in let f5 = f6 .before in
-    let f4 = f5 .before in let f3 = f4 .before in let f2 = f3 .before in let f1 = f2 .before in
+    let f4 = f5 .before in let f3 = f4 .before in let f2 = f3 .before in let k = f2 .before in let f1 = k .before in
     passed _ _ (f1 .lengths-fit .ensures) (i1 .if1 .left) (
-    passed _ _ (f2 .registers-fit .ensures) (i2 .if2 .left) (
+    passed _ _ (f2 .registers-fit .ensures ∙ ap (registersFit _) (k .last-row .ensures)) (i2 .if2 .left) (
     passed _ _ (f3 .size-fits .ensures) (i3 .if3 .left) (
     failed _ _ (f4 .address-fits .ensures) (c .if4 .taken))))
 
@@ -81,9 +86,9 @@ unfolding checks
 returns-5 c = let i4 = c .before in let i3 = i4 .before in let i2 = i3 .before in let i1 = i2 .before in
     let f9 = i1 .before in let f8 = f9 .before in let f7 = f8 .before in let f6 = f7 .before in
     let f5 = f6 .before in let f4 = f5 .before in let f3 = f4 .before in let f2 = f3 .before in
-    let f1 = f2 .before in
+    let k = f2 .before in let f1 = k .before in
     passed _ _ (f1 .lengths-fit .ensures) (i1 .if1 .left) (
-    passed _ _ (f2 .registers-fit .ensures) (i2 .if2 .left) (
+    passed _ _ (f2 .registers-fit .ensures ∙ ap (registersFit _) (k .last-row .ensures)) (i2 .if2 .left) (
     passed _ _ (f3 .size-fits .ensures) (i3 .if3 .left) (
     passed _ _ (f4 .address-fits .ensures) (i4 .if4 .left) (
     failed _ _ (f5 .value-fits .ensures) (c .if5 .taken)))))
@@ -93,9 +98,9 @@ unfolding checks
 returns-6 c = let i5 = c .before in let i4 = i5 .before in let i3 = i4 .before in let i2 = i3 .before in
     let i1 = i2 .before in let f9 = i1 .before in let f8 = f9 .before in let f7 = f8 .before in
     let f6 = f7 .before in let f5 = f6 .before in let f4 = f5 .before in let f3 = f4 .before in
-    let f2 = f3 .before in let f1 = f2 .before in
+    let f2 = f3 .before in let k = f2 .before in let f1 = k .before in
     passed _ _ (f1 .lengths-fit .ensures) (i1 .if1 .left) (
-    passed _ _ (f2 .registers-fit .ensures) (i2 .if2 .left) (
+    passed _ _ (f2 .registers-fit .ensures ∙ ap (registersFit _) (k .last-row .ensures)) (i2 .if2 .left) (
     passed _ _ (f3 .size-fits .ensures) (i3 .if3 .left) (
     passed _ _ (f4 .address-fits .ensures) (i4 .if4 .left) (
     passed _ _ (f5 .value-fits .ensures) (i5 .if5 .left) (
@@ -106,28 +111,28 @@ unfolding checks
 returns-7 c = let i6 = c .before in let i5 = i6 .before in let i4 = i5 .before in let i3 = i4 .before in
     let i2 = i3 .before in let i1 = i2 .before in let f9 = i1 .before in let f8 = f9 .before in
     let f7 = f8 .before in let f6 = f7 .before in let f5 = f6 .before in let f4 = f5 .before in
-    let f3 = f4 .before in let f2 = f3 .before in let f1 = f2 .before in
+    let f3 = f4 .before in let f2 = f3 .before in let k = f2 .before in let f1 = k .before in
     passed _ _ (f1 .lengths-fit .ensures) (i1 .if1 .left) (
-    passed _ _ (f2 .registers-fit .ensures) (i2 .if2 .left) (
+    passed _ _ (f2 .registers-fit .ensures ∙ ap (registersFit _) (k .last-row .ensures)) (i2 .if2 .left) (
     passed _ _ (f3 .size-fits .ensures) (i3 .if3 .left) (
     passed _ _ (f4 .address-fits .ensures) (i4 .if4 .left) (
     passed _ _ (f5 .value-fits .ensures) (i5 .if5 .left) (
     passed _ _ (f6 .new-root-fits .ensures) (i6 .if6 .left) (
-    failed _ _ (f7 .context-fits .ensures) (c .if7 .taken)))))))
+    failed _ _ (f7 .context-fits .ensures ∙ ap (contextFits _ _ _) (k .last-row .ensures)) (c .if7 .taken)))))))
 
 returns-8 : tie.Need-returns-8
 unfolding checks
 returns-8 c = let i7 = c .before in let i6 = i7 .before in let i5 = i6 .before in let i4 = i5 .before in
     let i3 = i4 .before in let i2 = i3 .before in let i1 = i2 .before in let f9 = i1 .before in
     let f8 = f9 .before in let f7 = f8 .before in let f6 = f7 .before in let f5 = f6 .before in
-    let f4 = f5 .before in let f3 = f4 .before in let f2 = f3 .before in let f1 = f2 .before in
+    let f4 = f5 .before in let f3 = f4 .before in let f2 = f3 .before in let k = f2 .before in let f1 = k .before in
     passed _ _ (f1 .lengths-fit .ensures) (i1 .if1 .left) (
-    passed _ _ (f2 .registers-fit .ensures) (i2 .if2 .left) (
+    passed _ _ (f2 .registers-fit .ensures ∙ ap (registersFit _) (k .last-row .ensures)) (i2 .if2 .left) (
     passed _ _ (f3 .size-fits .ensures) (i3 .if3 .left) (
     passed _ _ (f4 .address-fits .ensures) (i4 .if4 .left) (
     passed _ _ (f5 .value-fits .ensures) (i5 .if5 .left) (
     passed _ _ (f6 .new-root-fits .ensures) (i6 .if6 .left) (
-    passed _ _ (f7 .context-fits .ensures) (i7 .if7 .left) (
+    passed _ _ (f7 .context-fits .ensures ∙ ap (contextFits _ _ _) (k .last-row .ensures)) (i7 .if7 .left) (
     failed _ _ (f8 .mode-fits .ensures) (c .if8 .taken))))))))
 
 returns-9 : tie.Need-returns-9
@@ -136,14 +141,14 @@ returns-9 c = let i8 = c .before in let i7 = i8 .before in let i6 = i7 .before i
     let i4 = i5 .before in let i3 = i4 .before in let i2 = i3 .before in let i1 = i2 .before in
     let f9 = i1 .before in let f8 = f9 .before in let f7 = f8 .before in let f6 = f7 .before in
     let f5 = f6 .before in let f4 = f5 .before in let f3 = f4 .before in let f2 = f3 .before in
-    let f1 = f2 .before in
+    let k = f2 .before in let f1 = k .before in
     passed _ _ (f1 .lengths-fit .ensures) (i1 .if1 .left) (
-    passed _ _ (f2 .registers-fit .ensures) (i2 .if2 .left) (
+    passed _ _ (f2 .registers-fit .ensures ∙ ap (registersFit _) (k .last-row .ensures)) (i2 .if2 .left) (
     passed _ _ (f3 .size-fits .ensures) (i3 .if3 .left) (
     passed _ _ (f4 .address-fits .ensures) (i4 .if4 .left) (
     passed _ _ (f5 .value-fits .ensures) (i5 .if5 .left) (
     passed _ _ (f6 .new-root-fits .ensures) (i6 .if6 .left) (
-    passed _ _ (f7 .context-fits .ensures) (i7 .if7 .left) (
+    passed _ _ (f7 .context-fits .ensures ∙ ap (contextFits _ _ _) (k .last-row .ensures)) (i7 .if7 .left) (
     passed _ _ (f8 .mode-fits .ensures) (i8 .if8 .left) (
     failed _ _ (f9 .may-ask .ensures) (c .if9 .taken)))))))))
 
@@ -153,14 +158,14 @@ returns-10 c = let i8 = c .before in let i7 = i8 .before in let i6 = i7 .before 
     let i4 = i5 .before in let i3 = i4 .before in let i2 = i3 .before in let i1 = i2 .before in
     let f9 = i1 .before in let f8 = f9 .before in let f7 = f8 .before in let f6 = f7 .before in
     let f5 = f6 .before in let f4 = f5 .before in let f3 = f4 .before in let f2 = f3 .before in
-    let f1 = f2 .before in
+    let k = f2 .before in let f1 = k .before in
     passed _ _ (f1 .lengths-fit .ensures) (i1 .if1 .left) (
-    passed _ _ (f2 .registers-fit .ensures) (i2 .if2 .left) (
+    passed _ _ (f2 .registers-fit .ensures ∙ ap (registersFit _) (k .last-row .ensures)) (i2 .if2 .left) (
     passed _ _ (f3 .size-fits .ensures) (i3 .if3 .left) (
     passed _ _ (f4 .address-fits .ensures) (i4 .if4 .left) (
     passed _ _ (f5 .value-fits .ensures) (i5 .if5 .left) (
     passed _ _ (f6 .new-root-fits .ensures) (i6 .if6 .left) (
-    passed _ _ (f7 .context-fits .ensures) (i7 .if7 .left) (
+    passed _ _ (f7 .context-fits .ensures ∙ ap (contextFits _ _ _) (k .last-row .ensures)) (i7 .if7 .left) (
     passed _ _ (f8 .mode-fits .ensures) (i8 .if8 .left) (
     passed _ _ (f9 .may-ask .ensures) (c .if9 .left) (
     none-left)))))))))
@@ -170,6 +175,7 @@ check-spec =
     tie.close
     (tie.spec
     lengths-fit-requires
+    last-row-requires
     registers-fit-requires
     size-fits-requires
     address-fits-requires

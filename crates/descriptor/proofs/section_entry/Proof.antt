@@ -20,8 +20,11 @@ mul-t11 c = search needs
 add-t14 : tie.Need-add-t14
 add-t14 c = search needs
 
+sub-t17 : tie.Need-sub-t17
+sub-t17 c = search needs
+
 returns : tie.Need-returns
 returns c = refl
 
 pub section-entry-spec : {M : Type 1} → statement M
-section-entry-spec = tie.close (tie.spec mul-t5 cast-t7 add-t8 mul-t11 add-t14 returns)
+section-entry-spec = tie.close (tie.spec mul-t5 cast-t7 add-t8 mul-t11 add-t14 sub-t17 returns)

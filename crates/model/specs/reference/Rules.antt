@@ -35,17 +35,36 @@ pub data Translation : Type 0 where
 unfoldable pub descriptor : List ℕ → ℕ → ℕ → (ℕ → Translation) → Translation
 descriptor m at n f = cond (inMemory m at 4) (f (value m at 4)) (failed n)
 
--- Section: base bits 31..20, AP[2] bit 15, AP[1:0] bits 11..10; the missing frame bits come from the address. An entry records
--- whether it came from a section: 1 here, 0 for pages.
-unfoldable pub section : ℕ → ℕ → Entry
-section a w = record { frame = bits 31 20 w * 256 + a / pageSize % 256; ap = bits 15 15 w * 4 + bits 11 10 w; section = 1 }
+-- An entry with the nG bit clear is global: 1, else 0.
+unfoldable pub globalBy : ℕ → ℕ
+globalBy nG = cond (eqb nG 0) 1 0
 
--- Large page: base bits 31..16. Small page: base bits 31..12. For both, AP[2] is bit 9 and AP[1:0] bits 5..4.
+-- Section: base bits 31..20, AP[2] bit 15, AP[1:0] bits 11..10, nG bit 17; the missing frame bits come from the address. An entry
+-- records whether it came from a section: 1 here, 0 for pages.
+unfoldable pub section : ℕ → ℕ → Entry
+section a w = record {
+  frame = bits 31 20 w * 256 + a / pageSize % 256;
+  ap = bits 15 15 w * 4 + bits 11 10 w;
+  section = 1;
+  global = globalBy (bits 17 17 w);
+}
+
+-- Large page: base bits 31..16. Small page: base bits 31..12. For both, AP[2] is bit 9, AP[1:0] bits 5..4 and nG bit 11.
 unfoldable pub largePage : ℕ → ℕ → Entry
-largePage a w = record { frame = bits 31 16 w * 16 + a / pageSize % 16; ap = bits 9 9 w * 4 + bits 5 4 w; section = 0 }
+largePage a w = record {
+  frame = bits 31 16 w * 16 + a / pageSize % 16;
+  ap = bits 9 9 w * 4 + bits 5 4 w;
+  section = 0;
+  global = globalBy (bits 11 11 w);
+}
 
 unfoldable pub smallPage : ℕ → Entry
-smallPage w = record { frame = bits 31 12 w; ap = bits 9 9 w * 4 + bits 5 4 w; section = 0 }
+smallPage w = record {
+  frame = bits 31 12 w;
+  ap = bits 9 9 w * 4 + bits 5 4 w;
+  section = 0;
+  global = globalBy (bits 11 11 w);
+}
 
 -- Level two. Low two bits 0: no mapping, fault 7. 1: large page. 2 or 3: small page.
 unfoldable pub pageWord : ℕ → ℕ → Translation
@@ -151,20 +170,37 @@ carriedOut o s = effect (o .kind) o s (outcome s)
 unfoldable pub plainStep : Operation → Bool → State → Option Result × State
 plainStep o isRefused s = cond isRefused (none, s) (some (carriedOut o s .0), carriedOut o s .1)
 
--- Whether an operation is a flush that names this context and page. The low 12 bits of a flush address don't matter.
-unfoldable pub flushes : Kind → Operation → ℕ → ℕ → Bool
-flushes Read o context page = false
-flushes Write o context page = false
-flushes Root o context page = false
-flushes Asid o context page = false
-flushes Mode o context page = false
-flushes All o context page = true
-flushes Addr o context page = eqb page (o .a / pageSize)
-flushes Ctx o context page = eqb context (o .a)
-flushes AddrCtx o context page = eqb page (o .a / pageSize) && eqb context (o .b)
+-- ── Where an entry is used ──
+-- The contexts that use an entry of a TLB: one alone, or every context where the entry is global.
+pub data Scope : Type 0 where
+  own : ℕ → Scope
+  global : Scope
+
+-- the scope of an entry that is loaded in a context
+unfoldable pub scopeOf : ℕ → Entry → Scope
+scopeOf context e = cond (eqb (e .global) 1) global (own context)
+
+-- whether entries of this scope are used in a context
+unfoldable pub covers : Scope → ℕ → Bool
+covers (own c) context = eqb c context
+covers global context = true
+
+-- Whether an operation is a flush that names the entries of this scope and page. `ctx` spares global entries; `addr` and `addrctx`
+-- drop the global entry of their page, whatever context is named. The low 12 bits of a flush address don't matter.
+unfoldable pub flushes : Kind → Operation → Scope → ℕ → Bool
+flushes Read o x page = false
+flushes Write o x page = false
+flushes Root o x page = false
+flushes Asid o x page = false
+flushes Mode o x page = false
+flushes All o x page = true
+flushes Addr o x page = eqb page (o .a / pageSize)
+flushes Ctx o (own c) page = eqb c (o .a)
+flushes Ctx o global page = false
+flushes AddrCtx o x page = eqb page (o .a / pageSize) && covers x (o .b)
 
 -- ── The chip: the plain machine with a TLB of n places ──
--- Each place may hold an entry under a context and a page.
+-- Each place may hold an entry, under the context that it was loaded in and its page.
 pub record Held : Type 0 where
   pub context : ℕ
   pub page : ℕ
@@ -173,11 +209,34 @@ pub record Held : Type 0 where
 abbrev pub Places : Type 0
 Places = List (Option Held)
 
--- the entry held for a page in a context
+unfoldable pub heldScope : Held → Scope
+heldScope h = scopeOf (h .context) (h .entry)
+
+-- Whether what is held matches a page in a context: a global entry matches its page in every context.
+unfoldable pub matches : Held → ℕ → ℕ → Bool
+matches h context page = covers (heldScope h) context && eqb (h .page) page
+
+-- the entry held that matches a page in a context
 unfoldable pub heldFor : ℕ → ℕ → Places → Option Entry
 heldFor context page [] = none
 heldFor context page (none ∷ hs) = heldFor context page hs
-heldFor context page (some h ∷ hs) = cond (eqb (h .context) context && eqb (h .page) page) (some (h .entry)) (heldFor context page hs)
+heldFor context page (some h ∷ hs) = cond (matches h context page) (some (h .entry)) (heldFor context page hs)
+
+-- Whether two scopes have a context in common.
+unfoldable pub meet : Scope → Scope → Bool
+meet (own c) (own d) = eqb c d
+meet (own c) global = true
+meet global x = true
+
+-- Whether two would both match some page in some context.
+unfoldable pub clash : Held → Held → Bool
+clash h k = meet (heldScope h) (heldScope k) && eqb (h .page) (k .page)
+
+-- whether something held would clash with h
+unfoldable pub anyClash : Held → Places → Bool
+anyClash h [] = false
+anyClash h (none ∷ ps) = anyClash h ps
+anyClash h (some k ∷ ps) = clash h k || anyClash h ps
 
 -- What the chip does by itself: drop what place i holds, or load a page into place i.
 pub data Move : Type 0 where
@@ -188,23 +247,26 @@ unfoldable pub isFree : {A : Type 0} → Option A → Bool
 isFree none = true
 isFree (some x) = false
 
+-- It holds at most one entry that matches a page in a given context: what would clash is not put in.
 unfoldable pub putIn : ℕ → ℕ → ℕ → Translation → Places → Places
-putIn i context page (found e) ps = set ps i (some (record { context = context; page = page; entry = e }))
+putIn i context page (found e) ps =
+    let h : Held = record { context = context; page = page; entry = e } in
+    cond (anyClash h ps) ps (set ps i (some h))
 putIn i context page (failed n) ps = ps
 
 -- A move; one that is not allowed does nothing. A load needs place i free, a page of the window (0 to 1,023) that the tables
--- map in the current context, and none held for it there.
+-- map in the current context, and that it brings about no two that match a page in some context.
 unfoldable pub move : State → Places → Move → Places
 move s ps (drop i) = set ps i none
 move s ps (load i page) =
-    cond (isFree (getD ps i none) && ltb page rowSize && isFree (heldFor (s .registers .context) page ps))
+    cond (isFree (getD ps i none) && ltb page rowSize)
     (putIn i (s .registers .context) page (outcome s (page * pageSize)) ps)
     ps
 
 unfoldable pub moves : State → Places → List Move → Places
 moves s ps xs = foldl (move s) ps xs
 
--- An aligned access takes the entry held for its page and current context in place of the walk.
+-- An aligned access takes the entry held that matches its page in the current context, in place of the walk.
 unfoldable pub orWalk : Option Entry → Translation → Translation
 orWalk none t = t
 orWalk (some e) t = found e
@@ -212,10 +274,10 @@ orWalk (some e) t = found e
 unfoldable pub chipOutcome : State → Places → ℕ → Translation
 chipOutcome s ps a = orWalk (heldFor (s .registers .context) (a / pageSize) ps) (outcome s a)
 
--- A flush drops what is held under the contexts and pages it names.
+-- A flush drops what is held of the scopes and pages it names.
 unfoldable pub flushPlace : Operation → Option Held → Option Held
 flushPlace o none = none
-flushPlace o (some h) = cond (flushes (o .kind) o (h .context) (h .page)) none (some h)
+flushPlace o (some h) = cond (flushes (o .kind) o (heldScope h) (h .page)) none (some h)
 
 -- One operation, told whether it was refused: its answer, the state, and what is held, before the moves that follow it.
 unfoldable pub chipStep : Operation → Bool → State → Places → Option Result × State × Places
@@ -224,22 +286,29 @@ chipStep o false s ps =
     (some (effect (o .kind) o s (chipOutcome s ps) .0), effect (o .kind) o s (chipOutcome s ps) .1, map (flushPlace o) ps)
 
 -- ── What a TLB may remember ──
--- Of a set of entries a word keeps: it is empty, it has one entry, or it has two or more different ones.
+-- For each scope and page there is a set of entries. Of such a set a word keeps: it is empty, it has one entry, or it has two or
+-- more different ones.
 pub data Kept : Type 0 where
   empty : Kept
   one : Entry → Kept
   several : Kept
 
--- The word of one entry: frame in bits 31..12, AP in bits 11..9, section in bit 8, bit 1 set, other bits clear.
+-- The word of one entry: frame in bits 31..12, AP in bits 11..9, section in bit 8, global in bit 7, bit 1 set, other bits clear.
 unfoldable pub wordOf : Entry → ℕ
-wordOf e = e .frame * 4096 + e .ap * 512 + e .section * 256 + 2
+wordOf e = e .frame * 4096 + e .ap * 512 + e .section * 256 + e .global * 128 + 2
 
 unfoldable pub entryOf : ℕ → Entry
-entryOf w = record { frame = bits 31 12 w; ap = bits 11 9 w; section = bits 8 8 w }
+entryOf w = record { frame = bits 31 12 w; ap = bits 11 9 w; section = bits 8 8 w; global = bits 7 7 w }
 
--- A word is 0 for an empty set and the entry's word for one entry. 1, and any other word, counts as several.
-unfoldable pub kept : ℕ → Kept
-kept w = cond (eqb w 0) empty (cond (eqb w (wordOf (entryOf w))) (one (entryOf w)) several)
+-- Whether an entry suits the row of a scope: global entries that of `global`, the others that of a context.
+unfoldable pub suits : Scope → Entry → Bool
+suits (own c) e = eqb (e .global) 0
+suits global e = eqb (e .global) 1
+
+-- A word is 0 for an empty set and the entry's word for one entry. 1, a word whose entry does not suit its row, and any other word
+-- count as several.
+unfoldable pub kept : Scope → ℕ → Kept
+kept x w = cond (eqb w 0) empty (cond (eqb w (wordOf (entryOf w)) && suits x (entryOf w)) (one (entryOf w)) several)
 
 -- Two entries are the same if they are in every field.
 unfoldable pub same : Entry → Entry → Bool
@@ -247,6 +316,7 @@ same x y =
     eqb (x .frame) (y .frame)
     && eqb (x .ap) (y .ap)
     && eqb (x .section) (y .section)
+    && eqb (x .global) (y .global)
 
 -- A word after an entry was added to its set. A word that counts as several stays as found.
 unfoldable pub addTo : Kept → Entry → ℕ → ℕ
@@ -254,10 +324,17 @@ addTo empty e w = wordOf e
 addTo (one x) e w = cond (same x e) w 1
 addTo several e w = w
 
--- A word after its page was noted: a page without mapping adds nothing.
-unfoldable pub noted : Translation → ℕ → ℕ
-noted (found e) w = addTo (kept w) e w
-noted (failed n) w = w
+unfoldable pub sameScope : Scope → Scope → Bool
+sameScope (own c) (own d) = eqb c d
+sameScope (own c) global = false
+sameScope global (own d) = false
+sameScope global global = true
+
+-- A word of a scope after its page was noted in a context: a global entry is added to the set of `global` alone, another to that of
+-- the context alone. A page without mapping adds nothing.
+unfoldable pub noted : Scope → ℕ → Translation → ℕ → ℕ
+noted x context (found e) w = cond (sameScope x (scopeOf context e)) (addTo (kept x w) e w) w
+noted x context (failed n) w = w
 
 -- A set holds an entry different from the present outcome; no mapping and a failed walk differ from every entry.
 unfoldable pub differs : Kept → Translation → Bool
@@ -267,30 +344,40 @@ differs (one e) (failed n) = true
 differs several x = true
 
 -- For all pages, one that the tables map in the context now current has its entry added.
-unfoldable pub notedIn : State → ℕ → ℕ → ℕ → ℕ
-notedIn s context page w = cond (eqb context (s .registers .context)) (noted (outcome s (page * pageSize)) w) w
+unfoldable pub notedIn : State → Scope → ℕ → ℕ → ℕ
+notedIn s x page w = noted x (s .registers .context) (outcome s (page * pageSize)) w
 
--- The word of a context and page after an operation that left the state s: a flush empties the sets it names, then noting follows.
-unfoldable pub wordAfter : Operation → State → ℕ → ℕ → ℕ → ℕ
-wordAfter o s context page w = notedIn s context page (cond (flushes (o .kind) o context page) 0 w)
+-- The word of a scope and page after an operation that left the state s: a flush empties the sets it names, then noting follows.
+unfoldable pub wordAfter : Operation → State → Scope → ℕ → ℕ → ℕ
+wordAfter o s x page w = notedIn s x page (cond (flushes (o .kind) o x page) 0 w)
 
--- the word of a context and a page in the track
-unfoldable pub trackWord : List ℕ → ℕ → ℕ → ℕ
-trackWord t context page = getD t (rowSize * context + page) 0
+-- the number of contexts k, told by the track's length alone: the track has k rows, then the row of the global entries
+unfoldable pub contexts : List ℕ → ℕ
+contexts t = length t / rowSize - 1
 
--- A page is stale in a context if its set there holds an entry different from its present outcome.
+unfoldable pub rowOf : List ℕ → Scope → ℕ
+rowOf t (own c) = c
+rowOf t global = contexts t
+
+-- whether a track has the row of a scope: it has those of its contexts, and the global row
+unfoldable pub hasRow : List ℕ → Scope → Bool
+hasRow t (own c) = ltb c (contexts t)
+hasRow t global = true
+
+-- the word of a scope and a page in the track
+unfoldable pub trackWord : List ℕ → Scope → ℕ → ℕ
+trackWord t x page = getD t (rowSize * rowOf t x + page) 0
+
+-- A page is stale in a context if its set there, or its global set, holds an entry different from its present outcome.
 unfoldable pub stale : List ℕ → ℕ → ℕ → Translation → Bool
-stale t context page x = differs (kept (trackWord t context page)) x
+stale t context page y =
+    differs (kept (own context) (trackWord t (own context) page)) y || differs (kept global (trackWord t global page)) y
 
 -- ── Turned back ──
 -- whether an operation's kind is one of these
 unfoldable pub among : Kind → List Kind → Bool
 among k [] = false
 among k (x ∷ xs) = eqb (kindNumber k) (kindNumber x) || among k xs
-
--- the number of contexts, told by the track's length alone
-unfoldable pub contexts : List ℕ → ℕ
-contexts t = length t / rowSize
 
 -- 7 size: 1, 2 or 4
 unfoldable pub refuses7 : Operation → Bool
@@ -321,12 +408,12 @@ refuses11 o k = among (o .kind) (Asid ∷ Ctx ∷ []) && leb k (o .a) || among (
 unfoldable pub refuses12 : Operation → Bool
 refuses12 o = among (o .kind) (Mode ∷ []) && leb 2 (o .a)
 
--- 13 lent lengths: memory a multiple of 4,096 from 4,096 to 16,777,216; track 1,024 × k, k from 1 to 256
+-- 13 lent lengths: memory a multiple of 4,096 from 4,096 to 16,777,216; track 1,024 × (k + 1), k from 1 to 256
 abbrev pub wrongMemory : List ℕ → Bool
 wrongMemory m = not (eqb (length m % memoryUnit) 0 && leb memoryUnit (length m) && leb (length m) memoryMost)
 
 abbrev pub wrongTrack : List ℕ → Bool
-wrongTrack t = not (eqb (length t) (rowSize * contexts t) && leb 1 (contexts t) && leb (contexts t) contextsMost)
+wrongTrack t = not (eqb (length t) (rowSize * (contexts t + 1)) && leb 1 (contexts t) && leb (contexts t) contextsMost)
 
 unfoldable pub refuses13 : List ℕ → List ℕ → Bool
 refuses13 m t = wrongMemory m || wrongTrack t

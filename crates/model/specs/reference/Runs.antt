@@ -9,7 +9,7 @@ use lib.ListN.{replicate}
 use Rattle.model.specs.Numbers.{Result, ok, fault, refused, shown}
 use Rattle.model.specs.reference.Rules.{State, fresh, plainStep, Held, Places, Move, moves, chipStep}
 use Rattle.model.specs.step.Machine.{After}
-use Rattle.model.specs.Types.{Registers, Operation, Entry}
+use Rattle.model.specs.Types.{Registers, Operation}
 
 -- the last of what a run gives, or what it began with
 unfoldable pub last : {A : Type 0} → A → List A → A
@@ -73,7 +73,7 @@ chipRun x (y ∷ ys) script = chipNext x (y .0) (y .1) (script 0) ∷ chipRun (c
 unfoldable pub chipSeen : Moment → Option Result × State
 chipSeen x = (x .answer, x .state)
 
--- some place holds this entry under this context and page
-unfoldable pub Holds : ℕ → ℕ → Entry → Places → Type 0
-Holds context page e [] = ⊥
-Holds context page e (p ∷ ps) = (p ≡ some (record { context = context; page = page; entry = e })) ⊎ Holds context page e ps
+-- some place holds h
+unfoldable pub Holds : Held → Places → Type 0
+Holds h [] = ⊥
+Holds h (p ∷ ps) = (p ≡ some h) ⊎ Holds h ps

@@ -6,6 +6,7 @@ use mathlib.Core.List.{List, [], _∷_}
 use lib.Dec.{eqb, leb, ltb}
 use Rattle.model.specs.Limits.{addressLimit, rowSize, rootAlignment, memoryUnit, memoryMost, contextsMost, wordLimit}
 use Rattle.model.specs.Numbers.{checkNumber}
+use Rattle.model.specs.step.Track.{lastRow}
 use Rattle.model.specs.Types.{Registers, Operation, Kind, Read, Write, Root, Asid, Mode, All, Addr, Ctx, AddrCtx, Refusal, WrongSize, WrongAddress, WrongValue, WrongRoot, WrongContext, WrongMode, WrongLengths, WrongRegisters, UserMode, Check, Pass, Refuse}
 
 -- whether n bytes can be a memory, and n words a track
@@ -13,7 +14,7 @@ unfoldable pub memoryFits : ℕ → Bool
 memoryFits n = cond (eqb (n % memoryUnit) 0) (cond (leb memoryUnit n) (leb n memoryMost) false) false
 
 unfoldable pub trackFits : ℕ → Bool
-trackFits n = cond (eqb (n % rowSize) 0) (cond (leb rowSize n) (leb n (contextsMost * rowSize)) false) false
+trackFits n = cond (eqb (n % rowSize) 0) (cond (leb (2 * rowSize) n) (leb n ((contextsMost + 1) * rowSize)) false) false
 
 unfoldable pub lengthsFit : ℕ → ℕ → Bool
 lengthsFit m t = cond (memoryFits m) (trackFits t) false
@@ -114,12 +115,12 @@ mayAsk AddrCtx mode = eqb mode 0
 unfoldable pub checks : Operation → Registers → ℕ → ℕ → List (Bool × Refusal)
 checks o r m t =
     (lengthsFit m t, WrongLengths)
-    ∷ (registersFit r (t / rowSize), WrongRegisters)
+    ∷ (registersFit r (lastRow t), WrongRegisters)
     ∷ (sizeFits (o .kind) (o .b), WrongSize)
     ∷ (addressFits (o .kind) (o .a), WrongAddress)
     ∷ (valueFits (o .kind) (o .b) (o .c), WrongValue)
     ∷ (newRootFits (o .kind) (o .a), WrongRoot)
-    ∷ (contextFits (o .kind) (o .a) (o .b) (t / rowSize), WrongContext)
+    ∷ (contextFits (o .kind) (o .a) (o .b) (lastRow t), WrongContext)
     ∷ (modeFits (o .kind) (o .a), WrongMode)
     ∷ (mayAsk (o .kind) (r .mode), UserMode)
     ∷ []

@@ -10,7 +10,7 @@ use Rattle.model.specs.Numbers.{shown}
 use Rattle.model.specs.step.Memory.{bytesOf, within, loadAt, writtenAt}
 use Rattle.model.specs.step.Walk.{walkPage}
 use Rattle.model.specs.step.Rights.{permitted}
-use Rattle.model.specs.step.Track.{noteTrack, flushAll, flushPage, flushContext, flushPageIn, wordAt, staleWord}
+use Rattle.model.specs.step.Track.{noteTrack, flushAll, flushPage, flushContext, flushPageIn, stalePage}
 use Rattle.model.specs.step.Checks.{checks, startChecks, firstFailing}
 use Rattle.model.specs.Types.{Registers, Returned, Operation, Kind, Read, Write, Root, Asid, Mode, All, Addr, Ctx, AddrCtx, Entry, Alignment, Fault, SectionPermission, PagePermission, AccessOutside, Refusal, StalePage, Answer, Done, Faulted, Refused, Size, One, Two, Four, Loaded, Value, Outside, Outcome, Mapped, Failed, Check, Pass, Refuse, Access, Stale, Fails, Physical}
 
@@ -57,14 +57,15 @@ granted (Mapped e) mode writes size a m =
     (cond (within size m (physicalOf e a)) (Physical (physicalOf e a)) (Fails AccessOutside))
     (Fails (permissionFaultOf e))
 
--- an access to a page with this outcome and track word
-unfoldable pub decided : Outcome → ℕ → ℕ → Bool → Size → ℕ → List ℕ → Access
-decided x w mode writes size a m =
-    cond (eqb (a % bytesOf size) 0) (cond (staleWord w x) Stale (granted x mode writes size a m)) (Fails Alignment)
+-- an access to a page with this outcome, which is stale or not
+unfoldable pub decided : Outcome → Bool → ℕ → Bool → Size → ℕ → List ℕ → Access
+decided x isStale mode writes size a m =
+    cond (eqb (a % bytesOf size) 0) (cond isStale Stale (granted x mode writes size a m)) (Fails Alignment)
 
 unfoldable pub accessAt : Registers → List ℕ → List ℕ → Bool → Size → ℕ → Access
 accessAt r m t writes size a =
-    decided (walkPage m (r .root) (a / pageSize)) (wordAt t (r .context) (a / pageSize)) (r .mode) writes size a m
+    let x = walkPage m (r .root) (a / pageSize) in
+    decided x (stalePage t (r .context) (a / pageSize) x) (r .mode) writes size a m
 
 -- the number that loading found: an access has tested that it lies in memory
 abbrev pub valueOf : Loaded → ℕ

@@ -1,5 +1,5 @@
 -- The track: noting, flushing and the stale test, by words, rows and parts.
-use Prim.Native.Nat.{ℕ, _+_, _*_, _/_, _%_}
+use Prim.Native.Nat.{ℕ, _+_, _*_, _-_, _/_, _%_}
 use mathlib.Core.Bool.{Bool, true, false, cond}
 use mathlib.Core.List.{List}
 use lib.Dec.{eqb, ltb}
@@ -11,30 +11,37 @@ use Rattle.model.specs.Types.{Entry, Outcome, Mapped, Failed}
 
 -- the word of one entry
 abbrev pub entryWord : Entry → ℕ
-entryWord e = e .frame % 1048576 * 4096 + e .ap % 8 * 512 + e .section % 2 * 256 + 2
+entryWord e = e .frame % 1048576 * 4096 + e .ap % 8 * 512 + e .section % 2 * 256 + e .global % 2 * 128 + 2
 
--- whether a word stands for one entry
-unfoldable pub isEntry : ℕ → Bool
-isEntry w = cond (ltb w wordLimit) (eqb (w % 256) 2) false
+-- A row is one of two kinds: that of a context, whose entries are not global, or the global row. What follows is told the kind by a
+-- number g as entries have it: 0 or 1.
 
--- a word after the entry with word v was added to its set
-unfoldable pub addEntry : ℕ → ℕ → ℕ
-addEntry w v = cond (eqb w 0) v (cond (eqb w v) w (cond (isEntry w) 1 w))
+-- whether a word of such a row stands for one entry
+unfoldable pub isEntry : ℕ → ℕ → Bool
+isEntry g w = cond (ltb w wordLimit) (cond (eqb (w % 128) 2) (eqb (w / 128 % 2) g) false) false
+
+-- a word after the entry with word v, one of its row's kind, was added to its set
+unfoldable pub addEntry : ℕ → ℕ → ℕ → ℕ
+addEntry g w v = cond (eqb w 0) v (cond (eqb w v) w (cond (isEntry g w) 1 w))
 
 -- a word after noting what the walk of its page found
-abbrev pub addOutcome : ℕ → Outcome → ℕ
-addOutcome w (Mapped e) = addEntry w (entryWord e)
-addOutcome w (Failed f) = w
+abbrev pub addOutcome : ℕ → ℕ → Outcome → ℕ
+addOutcome g w (Mapped e) = cond (eqb (e .global) g) (addEntry g w (entryWord e)) w
+addOutcome g w (Failed f) = w
 
-unfoldable pub notePage : List ℕ → ℕ → ℕ → ℕ → ℕ
-notePage m root page w = addOutcome w (walkPage m root page)
+unfoldable pub notePage : List ℕ → ℕ → ℕ → ℕ → ℕ → ℕ
+notePage m root g page w = addOutcome g w (walkPage m root page)
 
-abbrev pub noteRow : List ℕ → ℕ → List ℕ → List ℕ
-noteRow m root row = mapWords (notePage m root) row
+abbrev pub noteRow : List ℕ → ℕ → ℕ → List ℕ → List ℕ
+noteRow m root g row = mapWords (notePage m root g) row
 
--- the track with the row of a context noted
+-- the number of the last row of n words: the global row of a track, and how many contexts it has
+unfoldable pub lastRow : ℕ → ℕ
+lastRow n = n / rowSize - 1
+
+-- the track with the row of a context noted, then the global row
 unfoldable pub noteTrack : List ℕ → ℕ → ℕ → List ℕ → List ℕ
-noteTrack m root context t = inRow rowSize context (noteRow m root) t
+noteTrack m root context t = inRow rowSize (lastRow (length t)) (noteRow m root 1) (inRow rowSize context (noteRow m root 0) t)
 
 -- a row with the set of one page empty, and with every set empty
 abbrev pub emptyPage : ℕ → List ℕ → List ℕ
@@ -43,7 +50,7 @@ emptyPage page row = set row page 0
 abbrev pub emptyRow : List ℕ → List ℕ
 emptyRow row = mapWords (λ (i w : ℕ). 0) row
 
--- the four flushes of a track: every set; a page in every context; a context; a page in a context
+-- the four flushes of a track: every set; a page in every row; a context's row; a page in a context's row and in the global row
 unfoldable pub flushAll : List ℕ → List ℕ
 flushAll t = eachRow rowSize (length t / rowSize) emptyRow t
 
@@ -54,13 +61,18 @@ unfoldable pub flushContext : ℕ → List ℕ → List ℕ
 flushContext context t = inRow rowSize context emptyRow t
 
 unfoldable pub flushPageIn : ℕ → ℕ → List ℕ → List ℕ
-flushPageIn context page t = inRow rowSize context (emptyPage page) t
+flushPageIn context page t = inRow rowSize (lastRow (length t)) (emptyPage page) (inRow rowSize context (emptyPage page) t)
 
--- the word of a context and a page
+-- the word of a row and a page
 abbrev pub wordAt : List ℕ → ℕ → ℕ → ℕ
-wordAt t context page = getD t (context * rowSize + page) 0
+wordAt t row page = getD t (row * rowSize + page) 0
 
--- whether a page with this word is stale
-unfoldable pub staleWord : ℕ → Outcome → Bool
-staleWord w (Mapped e) = cond (eqb w 0) false (cond (eqb w (entryWord e)) false true)
-staleWord w (Failed f) = cond (eqb w 0) false true
+-- whether a word of a row of kind g makes its page stale
+unfoldable pub staleWord : ℕ → ℕ → Outcome → Bool
+staleWord g w (Mapped e) = cond (eqb w 0) false (cond (eqb (e .global) g) (cond (eqb w (entryWord e)) false true) true)
+staleWord g w (Failed f) = cond (eqb w 0) false true
+
+-- whether a page is stale: by its word in the row of a context, or by its word in the global row
+unfoldable pub stalePage : List ℕ → ℕ → ℕ → Outcome → Bool
+stalePage t context page x =
+    cond (staleWord 0 (wordAt t context page) x) true (staleWord 1 (wordAt t (lastRow (length t)) page) x)

@@ -1,5 +1,5 @@
 -- The walk of two-level tables, by page number.
-use Prim.Native.Nat.{ℕ, _+_, _*_, _/_, _%_}
+use Prim.Native.Nat.{ℕ, _+_, _*_, _-_, _/_, _%_}
 use mathlib.Core.Bool.{Bool, true, false, cond}
 use mathlib.Core.List.{List}
 use lib.Dec.{eqb}
@@ -13,15 +13,22 @@ sectionAp w = w / 32768 % 2 * 4 + w / 1024 % 4
 abbrev pub pageAp : ℕ → ℕ
 pageAp w = w / 512 % 2 * 4 + w / 16 % 4
 
+-- 1 where the nG bit of a section's word is clear, and of a page's
+abbrev pub sectionGlobal : ℕ → ℕ
+sectionGlobal w = 1 - w / 131072 % 2
+
+abbrev pub pageGlobal : ℕ → ℕ
+pageGlobal w = 1 - w / 2048 % 2
+
 -- the entries of the three kinds of mapping, for one page
 abbrev pub sectionEntry : ℕ → ℕ → Entry
-sectionEntry w page = record { frame = w / 1048576 % 4096 * 256 + page % 256; ap = sectionAp w; section = 1 }
+sectionEntry w page = record { frame = w / 1048576 % 4096 * 256 + page % 256; ap = sectionAp w; section = 1; global = sectionGlobal w }
 
 abbrev pub largeEntry : ℕ → ℕ → Entry
-largeEntry w page = record { frame = w / 65536 % 65536 * 16 + page % 16; ap = pageAp w; section = 0 }
+largeEntry w page = record { frame = w / 65536 % 65536 * 16 + page % 16; ap = pageAp w; section = 0; global = pageGlobal w }
 
 abbrev pub smallEntry : ℕ → Entry
-smallEntry w = record { frame = w / 4096 % 1048576; ap = pageAp w; section = 0 }
+smallEntry w = record { frame = w / 4096 % 1048576; ap = pageAp w; section = 0; global = pageGlobal w }
 
 -- a descriptor is a word of memory
 abbrev pub descriptorAt : List ℕ → ℕ → Loaded

@@ -6,13 +6,13 @@ use lib.ListN.{length}
 use denote.Ref.{now}
 use borrow.Author.Needs.{needs}
 use Rattle.model.specs.step.Rows.{eachRow}
-use Rattle.model.specs.step.Track.{emptyPage, flushPageIn, flushPage}
+use Rattle.model.specs.step.Track.{emptyPage, flushPage}
 use Rattle.track.proofs.Rows.{row-turn}
 use Rattle.track.proofs.flush_page.Statement.{statement}
 use Rattle.track.proofs.flush_page.Tie as tie
 use Rattle.track.proofs.flush_page.Reads as reads
 use Rattle.track.proofs.flush_page.Lts as lts
-use Rattle.track.proofs.flush_page_in.Reads as flush-page-in-reads
+use Rattle.track.proofs.empty_in.Reads as empty-in-reads
 
 abbrev Inv-loop : tie.InvT-loop
 Inv-loop track₀ page rows c₀ track c = (c ≤ rows) × ((track ≡ eachRow 1024 c (emptyPage page) track₀) × (length track ≡ length track₀))
@@ -24,8 +24,8 @@ loop-holds : tie.Need-loop-holds Inv-loop μ-loop
 unfolding eachRow
 loop-holds c = (zero-le, (refl, refl))
 
-flush-page-in-requires : tie.Need-flush-page-in-requires Inv-loop μ-loop
-flush-page-in-requires c κs = search needs
+empty-in-requires : tie.Need-empty-in-requires Inv-loop μ-loop
+empty-in-requires c κs = search needs
 
 add-c : tie.Need-add-c Inv-loop μ-loop
 add-c c = omega arith
@@ -34,9 +34,8 @@ loop-less : tie.Need-loop-less Inv-loop μ-loop
 loop-less c = omega arith
 
 loop-again : tie.Need-loop-again Inv-loop μ-loop
-unfolding flushPageIn
 loop-again c = let l = c .before .before .before .before .before in let a = l .before .before .args in let e = c .before .before in
-    (omega arith, (row-turn (emptyPage (a .page)) 1024 (l .loop .c) (now (a .track)) (l .loop .track) _ (l .loop .inv .1 .0) (e .flush-page-in .ensures), c .before .track .given ∙ l .loop .inv .1 .1))
+    (omega arith, (row-turn (emptyPage (a .page)) 1024 (l .loop .c) (now (a .track)) (l .loop .track) _ (l .loop .inv .1 .0) (e .empty-in .ensures), c .before .track .given ∙ l .loop .inv .1 .1))
 
 same-length : tie.Need-same-length Inv-loop μ-loop
 same-length c = c .before .loop .inv .1 .1
@@ -53,7 +52,7 @@ flush-page-spec =
     Inv-loop
     μ-loop
     loop-holds
-    flush-page-in-requires
+    empty-in-requires
     add-c
     loop-less
     loop-again

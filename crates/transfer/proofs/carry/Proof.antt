@@ -3,7 +3,7 @@ use Rattle.transfer.proofs.carry.Statement.{statement}
 use Rattle.transfer.proofs.carry.Tie as tie
 use Rattle.transfer.proofs.carry.Reads as reads
 use Rattle.transfer.proofs.carry.Lts as lts
-use Rattle.track.proofs.note.Reads as note-reads
+use Rattle.noting.proofs.note.Reads as note-reads
 
 cast-note : tie.Need-cast-note
 cast-note c = search needs

@@ -4,7 +4,7 @@ use Rattle.transfer.proofs.store_and_note.Tie as tie
 use Rattle.transfer.proofs.store_and_note.Reads as reads
 use Rattle.transfer.proofs.store_and_note.Lts as lts
 use Rattle.memory.proofs.store.Reads as store-reads
-use Rattle.track.proofs.note.Reads as note-reads
+use Rattle.noting.proofs.note.Reads as note-reads
 
 store-requires : tie.Need-store-requires
 store-requires c κs = search needs
