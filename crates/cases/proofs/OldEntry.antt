@@ -1,9 +1,9 @@
 -- What the witnesses share: 16 is said, so some TLB could hold another entry; and where a page has had but one entry, in one context,
 -- whatever a TLB holds of it is that one.
 use Prim.Native.Nat.{ℕ, suc, _*_, _/_}
-use mathlib.Core.Path.{_≡_, refl, sym, ap, _∙_, subst}
+use mathlib.Core.Path.{_≡_, sym, ap, _∙_, subst}
 use mathlib.Core.Bool.{Bool, true, false, true≢false}
-use mathlib.Core.Option.{Option, none, some}
+use mathlib.Core.Option.{Option, none}
 use mathlib.Core.List.{List, [], _∷_, map}
 use lib.Dec.{eqb}
 use lib.ListN.{replicate}
@@ -12,8 +12,8 @@ use Rattle.tlb.specs.Places.{Within}
 use Rattle.tlb.proofs.PlaceLaws.{within-none, within-flushed}
 use Rattle.model.specs.Limits.{pageSize}
 use Rattle.model.specs.Numbers.{Result, refused, shown}
-use Rattle.model.specs.reference.Rules.{Translation, found, failed, State, fresh, outcome, plainStep, covers, Held, Places, heldScope, matches, Move, moves, flushPlace, chipStep}
-use Rattle.model.specs.reference.Runs.{last, next, plainRun, Moment, chipStart, chipNext, chipRun, chipSeen, Holds}
+use Rattle.model.specs.reference.Rules.{found, failed, State, fresh, outcome, plainStep, covers, Held, heldScope, matches, Move, flushPlace, chipStep}
+use Rattle.model.specs.reference.Runs.{last, next, plainRun, Moment, chipStart, chipNext, chipRun, chipSeen}
 use Rattle.model.specs.Invisible.{Session, Accepted, toldOf, chipStartOf, plainEnd, atEnd, alignedAccess, CouldDiffer, checker}
 use Rattle.model.specs.declared.Operation.{Operation}
 use Rattle.model.specs.declared.Entry.{Entry}

@@ -1,5 +1,5 @@
 -- A proved case of the rules taken through the second half: image A, 0 written to 0x404, then a read of 0x1000.
-use Prim.Native.Nat.{ℕ, _*_}
+use Prim.Native.Nat.{_*_}
 use mathlib.Core.Path.{_≡_, refl, sym, subst}
 use mathlib.Core.Bool.{true, false}
 use mathlib.Core.List.{[], _∷_}

@@ -9,6 +9,7 @@ use model::Operation;
 use model::Registers;
 use model::Returned;
 use transfer::carry;
+use transfer::carry_flushed;
 use transfer::read;
 use transfer::write;
 
@@ -55,11 +56,11 @@ fn carry_out(kind: Kind, o: Operation, r: Registers, m: &mut [u8], t: &mut [u32]
         Kind::Mode => carry(Answer::Done(0), with_mode(r, o.a), m, t),
         Kind::All => {
             track::flush_all(t);
-            carry(Answer::Done(0), r, m, t)
+            carry_flushed(Answer::Done(0), r, m, t)
         }
         Kind::Addr => {
             track::flush_page(t, o.a as usize / 4096); // pageSize
-            carry(Answer::Done(0), r, m, t)
+            carry_flushed(Answer::Done(0), r, m, t)
         }
         Kind::Ctx => {
             track::flush_context(t, o.a as usize);
@@ -67,7 +68,7 @@ fn carry_out(kind: Kind, o: Operation, r: Registers, m: &mut [u8], t: &mut [u32]
         }
         Kind::AddrCtx => {
             track::flush_page_in(t, o.b as usize, o.a as usize / 4096); // pageSize
-            carry(Answer::Done(0), r, m, t)
+            carry_flushed(Answer::Done(0), r, m, t)
         }
     }
 }
@@ -103,7 +104,7 @@ pub fn start(m: &[u8], t: &mut [u32], root: u32) -> Returned
         },
         Check::Pass => {
             track::flush_all(t);
-            carry(
+            carry_flushed(
                 Answer::Done(0),
                 Registers {
                     root: root,

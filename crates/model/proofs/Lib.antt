@@ -17,6 +17,5 @@ pub mod Kept
 pub mod Chips
 pub mod ThirdDemand
 pub mod Pinned
-pub mod Across
 pub mod Refuted
 pub mod CaseTools

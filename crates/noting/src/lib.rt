@@ -29,7 +29,7 @@ const ROW: usize = 1024;
 // How many pages a MiB has: mibPages.
 const MIB: usize = 256;
 
-// A word of such a row after noting what the walk of its page found.
+// A word of a row of this kind after noting what the walk of its page found.
 fn add_outcome(global: u32, w: u32, o: Outcome) -> u32
     ensures { λ r. ⌜ r ≡ addOutcome global w o ⌝ }
 {
@@ -248,13 +248,20 @@ fn is_settled(m: &[u8], root: u32, track: &[u32], context: usize) -> bool
 }
 
 // Notes the row of a context, where the track has it, then the global row.
+pub fn note_rows(m: &[u8], root: u32, track: &mut [u32], context: usize)
+    ensures { λ _. ⌜ now (track .exit) ≡ noteTrack (now (m .entry)) root context (now (track .entry)) ⌝ }
+{
+    let last = last_row(track.len());
+    note_in(m, root, 0, track, context);
+    note_in(m, root, 1, track, last);
+}
+
+// The same, but that it looks first whether anything is to be noted: what to call where mostly nothing is.
 pub fn note(m: &[u8], root: u32, track: &mut [u32], context: usize)
     ensures { λ _. ⌜ now (track .exit) ≡ noteTrack (now (m .entry)) root context (now (track .entry)) ⌝ }
 {
     if is_settled(m, root, track, context) {
         return;
     }
-    let last = last_row(track.len());
-    note_in(m, root, 0, track, context);
-    note_in(m, root, 1, track, last);
+    note_rows(m, root, track, context);
 }

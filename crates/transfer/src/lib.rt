@@ -33,6 +33,17 @@ pub fn carry(x: Answer, r: Registers, m: &[u8], t: &mut [u32]) -> Returned
     }
 }
 
+// The same after a flush that has emptied sets, which noting fills again.
+pub fn carry_flushed(answer: Answer, r: Registers, m: &[u8], t: &mut [u32]) -> Returned
+    ensures { λ y. ⌜ Gives (carried answer r (now (m .entry)) (now (t .entry))) y (now (m .entry)) (now (t .exit)) ⌝ }
+{
+    noting::note_rows(m, r.root, t, r.context as usize);
+    Returned {
+        answer: answer,
+        registers: r,
+    }
+}
+
 // Stores, then notes with the memory that is left.
 fn store_and_note(
     at: usize,

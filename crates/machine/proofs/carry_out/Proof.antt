@@ -14,6 +14,7 @@ use Rattle.machine.proofs.carry_out.Tie as tie
 use Rattle.machine.proofs.carry_out.Reads as reads
 use Rattle.machine.proofs.carry_out.Lts as lts
 use Rattle.transfer.proofs.carry.Reads as carry-reads
+use Rattle.transfer.proofs.carry_flushed.Reads as carry-flushed-reads
 use Rattle.transfer.proofs.read.Reads as read-reads
 use Rattle.access.proofs.size_of.Reads as size-of-reads
 use Rattle.machine.proofs.with_context.Reads as with-context-reads
@@ -76,8 +77,8 @@ enum-told-6 c = search needs
 flush-all-requires : tie.Need-flush-all-requires
 flush-all-requires c κs = search needs
 
-carry-requires-4 : tie.Need-carry-requires-4
-carry-requires-4 c κs = search needs
+carry-flushed-requires : tie.Need-carry-flushed-requires
+carry-flushed-requires c κs = search needs
 
 enum-told-7 : tie.Need-enum-told-7
 enum-told-7 c = search needs
@@ -88,8 +89,8 @@ cast-flush-page c = search needs
 flush-page-requires : tie.Need-flush-page-requires
 flush-page-requires c κs = search needs
 
-carry-requires-5 : tie.Need-carry-requires-5
-carry-requires-5 c κs = search needs
+carry-flushed-requires-2 : tie.Need-carry-flushed-requires-2
+carry-flushed-requires-2 c κs = search needs
 
 enum-told-8 : tie.Need-enum-told-8
 enum-told-8 c = search needs
@@ -100,8 +101,8 @@ cast-flush-context c = search needs
 flush-context-requires : tie.Need-flush-context-requires
 flush-context-requires c κs = search needs
 
-carry-requires-6 : tie.Need-carry-requires-6
-carry-requires-6 c κs = search needs
+carry-requires-4 : tie.Need-carry-requires-4
+carry-requires-4 c κs = search needs
 
 enum-told-9 : tie.Need-enum-told-9
 enum-told-9 c = search needs
@@ -115,8 +116,8 @@ cast-flush-page-in-2 c = search needs
 flush-page-in-requires : tie.Need-flush-page-in-requires
 flush-page-in-requires c κs = search needs
 
-carry-requires-7 : tie.Need-carry-requires-7
-carry-requires-7 c κs = search needs
+carry-flushed-requires-3 : tie.Need-carry-flushed-requires-3
+carry-flushed-requires-3 c κs = search needs
 
 same-length : tie.Need-same-length
 same-length c = search needs
@@ -182,7 +183,7 @@ same-length-12 c = search needs
 returns-6 : tie.Need-returns-6
 unfolding operate
 returns-6 c = let k = c .before .before in let f = k .before .before .before .before .before in let e = f .before .before in let a = e .before .before .before .before .args in
-    regive _ _ _ _ _ (ap (λ (z : List ℕ). carried (Done 0) (a .r) (now (a .m)) z) (f .flush-all .ensures) ∙ sym (ap (λ (w : Kind). operate w (a .o) (a .r) (now (a .m)) (now (a .t))) (e .enum-told6 .given .1))) (k .carry4 .ensures)
+    regive _ _ _ _ _ (ap (λ (z : List ℕ). carried (Done 0) (a .r) (now (a .m)) z) (f .flush-all .ensures) ∙ sym (ap (λ (w : Kind). operate w (a .o) (a .r) (now (a .m)) (now (a .t))) (e .enum-told6 .given .1))) (k .carry-flushed .ensures)
 
 same-length-13 : tie.Need-same-length-13
 same-length-13 c = search needs
@@ -193,7 +194,7 @@ same-length-14 c = search needs
 returns-7 : tie.Need-returns-7
 unfolding operate
 returns-7 c = let k = c .before .before in let f = k .before .before .before .before .before in let e = f .before .before .before in let a = e .before .before .before .before .args in
-    regive _ _ _ _ _ (ap (λ (z : List ℕ). carried (Done 0) (a .r) (now (a .m)) z) (f .flush-page .ensures) ∙ sym (ap (λ (w : Kind). operate w (a .o) (a .r) (now (a .m)) (now (a .t))) (e .enum-told7 .given .1))) (k .carry5 .ensures)
+    regive _ _ _ _ _ (ap (λ (z : List ℕ). carried (Done 0) (a .r) (now (a .m)) z) (f .flush-page .ensures) ∙ sym (ap (λ (w : Kind). operate w (a .o) (a .r) (now (a .m)) (now (a .t))) (e .enum-told7 .given .1))) (k .carry-flushed2 .ensures)
 
 same-length-15 : tie.Need-same-length-15
 same-length-15 c = search needs
@@ -204,7 +205,7 @@ same-length-16 c = search needs
 returns-8 : tie.Need-returns-8
 unfolding operate
 returns-8 c = let k = c .before .before in let f = k .before .before .before .before .before in let e = f .before .before .before in let a = e .before .before .before .before .args in
-    regive _ _ _ _ _ (ap (λ (z : List ℕ). carried (Done 0) (a .r) (now (a .m)) z) (f .flush-context .ensures) ∙ sym (ap (λ (w : Kind). operate w (a .o) (a .r) (now (a .m)) (now (a .t))) (e .enum-told8 .given .1))) (k .carry6 .ensures)
+    regive _ _ _ _ _ (ap (λ (z : List ℕ). carried (Done 0) (a .r) (now (a .m)) z) (f .flush-context .ensures) ∙ sym (ap (λ (w : Kind). operate w (a .o) (a .r) (now (a .m)) (now (a .t))) (e .enum-told8 .given .1))) (k .carry4 .ensures)
 
 same-length-17 : tie.Need-same-length-17
 same-length-17 c = search needs
@@ -215,7 +216,7 @@ same-length-18 c = search needs
 returns-9 : tie.Need-returns-9
 unfolding operate
 returns-9 c = let k = c .before .before in let f = k .before .before .before .before .before in let e = f .before .before .before .before in let a = e .before .before .before .before .args in
-    regive _ _ _ _ _ (ap (λ (z : List ℕ). carried (Done 0) (a .r) (now (a .m)) z) (f .flush-page-in .ensures) ∙ sym (ap (λ (w : Kind). operate w (a .o) (a .r) (now (a .m)) (now (a .t))) (e .enum-told9 .given .1))) (k .carry7 .ensures)
+    regive _ _ _ _ _ (ap (λ (z : List ℕ). carried (Done 0) (a .r) (now (a .m)) z) (f .flush-page-in .ensures) ∙ sym (ap (λ (w : Kind). operate w (a .o) (a .r) (now (a .m)) (now (a .t))) (e .enum-told9 .given .1))) (k .carry-flushed3 .ensures)
 
 pub carry-out-spec : {M : Type 1} → statement M
 carry-out-spec =
@@ -238,20 +239,20 @@ carry-out-spec =
     carry-requires-3
     enum-told-6
     flush-all-requires
-    carry-requires-4
+    carry-flushed-requires
     enum-told-7
     cast-flush-page
     flush-page-requires
-    carry-requires-5
+    carry-flushed-requires-2
     enum-told-8
     cast-flush-context
     flush-context-requires
-    carry-requires-6
+    carry-requires-4
     enum-told-9
     cast-flush-page-in
     cast-flush-page-in-2
     flush-page-in-requires
-    carry-requires-7
+    carry-flushed-requires-3
     same-length
     same-length-2
     returns

@@ -16,7 +16,7 @@ use Rattle.machine.proofs.start.Tie as tie
 use Rattle.machine.proofs.start.Reads as reads
 use Rattle.machine.proofs.start.Lts as lts
 use Rattle.checks.proofs.check_start.Reads as check-start-reads
-use Rattle.transfer.proofs.carry.Reads as carry-reads
+use Rattle.transfer.proofs.carry_flushed.Reads as carry-flushed-reads
 use Rattle.track.proofs.flush_all.Reads as flush-all-reads
 
 check-start-requires : tie.Need-check-start-requires
@@ -31,8 +31,8 @@ enum-told c = search needs
 flush-all-requires : tie.Need-flush-all-requires
 flush-all-requires c κs = search needs
 
-carry-requires : tie.Need-carry-requires
-carry-requires c κs = search needs
+carry-flushed-requires : tie.Need-carry-flushed-requires
+carry-flushed-requires c κs = search needs
 
 returns : tie.Need-returns
 unfolding started
@@ -45,7 +45,7 @@ same-length c = search needs
 returns-2 : tie.Need-returns-2
 unfolding started
 returns-2 c = let k = c .before .before in let f = k .before .before .before .before in let e = f .before .before in let h = e .before .before in let a = h .before .before .before .args in
-    regive _ _ _ _ _ (ap (λ (z : List ℕ). carried (Done 0) (startRegisters (a .root)) (now (a .m)) z) (f .flush-all .ensures) ∙ sym (ap (λ (z : Check). startedBy z (now (a .m)) (now (a .t)) (a .root)) (sym (h .check-start .ensures .check) ∙ e .enum-told .given .1))) (k .carry .ensures)
+    regive _ _ _ _ _ (ap (λ (z : List ℕ). carried (Done 0) (startRegisters (a .root)) (now (a .m)) z) (f .flush-all .ensures) ∙ sym (ap (λ (z : Check). startedBy z (now (a .m)) (now (a .t)) (a .root)) (sym (h .check-start .ensures .check) ∙ e .enum-told .given .1))) (k .carry-flushed .ensures)
 
 pub start-spec : {M : Type 1} → statement M
 start-spec =
@@ -55,7 +55,7 @@ start-spec =
     enum-known-n
     enum-told
     flush-all-requires
-    carry-requires
+    carry-flushed-requires
     returns
     same-length
     returns-2)

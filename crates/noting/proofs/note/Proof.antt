@@ -1,17 +1,10 @@
-use Prim.Native.Nat.{ℕ}
-use mathlib.Core.Path.{ap₂, _∙_}
-use mathlib.Core.List.{List}
-use denote.Ref.{now}
-use Rattle.model.specs.step.Rows.{inRow}
-use Rattle.model.specs.step.Track.{noteRow, noteTrack}
 use borrow.Author.Needs.{needs}
 use Rattle.noting.proofs.note.Statement.{statement}
 use Rattle.noting.proofs.note.Tie as tie
 use Rattle.noting.proofs.note.Reads as reads
 use Rattle.noting.proofs.note.Lts as lts
-use Rattle.limits.proofs.last_row.Reads as last-row-reads
 use Rattle.noting.proofs.is_settled.Reads as is-settled-reads
-use Rattle.noting.proofs.note_in.Reads as note-in-reads
+use Rattle.noting.proofs.note_rows.Reads as note-rows-reads
 
 is-settled-requires : tie.Need-is-settled-requires
 is-settled-requires c κs = search needs
@@ -22,32 +15,16 @@ same-length c = search needs
 returns : tie.Need-returns
 returns c = c .before .is-settled .ensures (c .if1 .taken)
 
-last-row-requires : tie.Need-last-row-requires
-last-row-requires c κs = search needs
-
-note-in-requires : tie.Need-note-in-requires
-note-in-requires c κs = search needs
-
-note-in-requires-2 : tie.Need-note-in-requires-2
-note-in-requires-2 c κs = search needs
+note-rows-requires : tie.Need-note-rows-requires
+note-rows-requires c κs = search needs
 
 same-length-2 : tie.Need-same-length-2
 same-length-2 c = search needs
 
 returns-2 : tie.Need-returns-2
-unfolding noteTrack
-returns-2 c = let first = c .before .before .before .before .before .before in let last = first .before .before in let a = last .before .before .before .before .before .before .args in
-    c .before .before .note-in2 .ensures ∙ ap₂ (λ (n : ℕ) (l : List ℕ). inRow 1024 n (noteRow (now (a .m)) (a .root) 1) l) (last .last-row .ensures) (first .note-in .ensures)
+returns-2 c = search needs
 
 pub note-spec : {M : Type 1} → statement M
 note-spec =
     tie.close
-    (tie.spec
-    is-settled-requires
-    same-length
-    returns
-    last-row-requires
-    note-in-requires
-    note-in-requires-2
-    same-length-2
-    returns-2)
+    (tie.spec is-settled-requires same-length returns note-rows-requires same-length-2 returns-2)

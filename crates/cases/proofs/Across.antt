@@ -6,10 +6,11 @@ use mathlib.Core.Bool.{Bool, true, false}
 use mathlib.Core.List.{List, [], _∷_, map}
 use native.Mathlib.Omega.{arith}
 use lib.ListN.{set, replicate}
 use Rattle.model.specs.reference.Rules.{fresh, access, translated, touched, stored, aligned, allows, rightOf, physical, outcome, setRegisters, effect, carriedOut, plainStep, scopeOf, covers, flushes, Held, heldScope, matches, heldFor, anyClash, load, isFree, putIn, move, moves, orWalk, chipOutcome, flushPlace, chipStep, walk, descriptor, tableWord, globalBy, section, bits, value, inMemory}
 use Rattle.model.specs.reference.Runs.{last, plainRun, chipStart, chipNext, chipRun, Holds}
 use Rattle.model.specs.Invisible.{UsedAcross}
-use Rattle.model.specs.Types.{Operation, Read, Write, Asid}
+use Rattle.model.specs.declared.Operation.{Operation}
+use Rattle.model.specs.declared.Kind.the-variants.{Read, Write, Asid}
 
 -- three pages; under root 0x80 the first MiB is a section at 0 with AP 1 and nG clear; 7 stands at the start of page 2
 abbrev mapped : List ℕ
