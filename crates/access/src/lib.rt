@@ -6,6 +6,7 @@ use model::Access;
 use model::Entry;
 use model::Fault;
 use model::Outcome;
+use model::Purpose;
 use model::Registers;
 use model::Size;
 
@@ -58,15 +59,21 @@ pub fn rights_of(ap: u32, mode: u32) -> u32
     user_rights(ap)
 }
 
-// Whether a mode may write, or read.
-pub fn permitted(ap: u32, mode: u32, writes: bool) -> bool
-    ensures { λ r. ⌜ r ≡ permitted ap mode writes ⌝ }
+// Whether an access for this purpose is permitted in a mode, by an entry's access permissions and its XN bit.
+pub fn permitted(ap: u32, mode: u32, purpose: Purpose, xn: u32) -> bool
+    ensures { λ r. ⌜ r ≡ permitted ap mode purpose xn ⌝ }
 {
     let rights = rights_of(ap, mode);
-    if writes {
-        return 2 <= rights;
+    match purpose {
+        Purpose::ToRead => 1 <= rights,
+        Purpose::ToWrite => 2 <= rights,
+        Purpose::ToFetch => {
+            if 1 <= rights {
+                return xn == 0;
+            }
+            false
+        }
     }
-    1 <= rights
 }
 
 // The size that a field names, where it names one.
@@ -93,14 +100,14 @@ pub fn permission_fault(e: Entry) -> Fault
 }
 
 // An access to a page with this outcome: permission, then the bytes.
-pub fn grant(o: Outcome, mode: u32, writes: bool, size: Size, a: u32, m: &[u8]) -> Access
-    ensures { λ r. ⌜ r ≡ granted o mode writes size a (now (m .entry)) ⌝ }
+pub fn grant(o: Outcome, mode: u32, purpose: Purpose, size: Size, a: u32, m: &[u8]) -> Access
+    ensures { λ r. ⌜ r ≡ granted o mode purpose size a (now (m .entry)) ⌝ }
 {
     match o {
         Outcome::Failed(f) => Access::Fails(f),
         Outcome::Mapped(e) => {
             let at = e.frame as usize * 4096 + a as usize % 4096; // pageSize
-            let allowed = permitted(e.ap, mode, writes);
+            let allowed = permitted(e.ap, mode, purpose, e.xn);
             let denied = permission_fault(e);
             let found = memory::inside(m, at, size);
             if !allowed {
@@ -119,12 +126,12 @@ pub fn decide(
     o: Outcome,
     stale: bool,
     mode: u32,
-    writes: bool,
+    purpose: Purpose,
     size: Size,
     a: u32,
     m: &[u8],
 ) -> Access
-    ensures { λ r. ⌜ r ≡ decided o stale mode writes size a (now (m .entry)) ⌝ }
+    ensures { λ r. ⌜ r ≡ decided o stale mode purpose size a (now (m .entry)) ⌝ }
 {
     let n = memory::bytes(size);
     let rest = a as usize % n;
@@ -132,17 +139,17 @@ pub fn decide(
         if stale {
             return Access::Stale;
         }
-        return grant(o, mode, writes, size, a, m);
+        return grant(o, mode, purpose, size, a, m);
     }
     Access::Fails(Fault::Alignment)
 }
 
 // What an access comes to.
-pub fn access_at(r: Registers, m: &[u8], t: &[u32], writes: bool, size: Size, a: u32) -> Access
-    ensures { λ x. ⌜ x ≡ accessAt r (now (m .entry)) (now (t .entry)) writes size a ⌝ }
+pub fn access_at(r: Registers, m: &[u8], t: &[u32], purpose: Purpose, size: Size, a: u32) -> Access
+    ensures { λ x. ⌜ x ≡ accessAt r (now (m .entry)) (now (t .entry)) purpose size a ⌝ }
 {
     let page = a as usize / 4096; // pageSize
     let o = walk::walk(m, r.root, page);
     let stale = track::is_stale_page(t, r.context, page, o);
-    decide(o, stale, r.mode, writes, size, a, m)
+    decide(o, stale, r.mode, purpose, size, a, m)
 }

@@ -16,9 +16,10 @@ use Rattle.model.specs.declared.Registers.{Registers}
 use Rattle.model.specs.declared.Operation.{Operation}
 use Rattle.model.specs.declared.Entry.{Entry}
 use Rattle.model.specs.declared.Kind.{Kind}
-use Rattle.model.specs.declared.Kind.the-variants.{Read, Write, Root, Asid, Mode, All, Addr, Ctx, AddrCtx}
+use Rattle.model.specs.declared.Kind.the-variants.{Read, Write, Root, Asid, Mode, All, Addr, Ctx, AddrCtx, Fetch}
 use Rattle.model.specs.declared.Fault.the-variants.{SecondUnmapped, FirstOutside}
 use Rattle.model.specs.declared.Size.the-variants.{Four}
+use Rattle.model.specs.declared.Purpose.the-variants.{ToRead, ToWrite, ToFetch}
 use Rattle.model.specs.declared.FirstLevel.{FirstLevel}
 use Rattle.model.specs.declared.FirstLevel.the-variants.{Failing, Table, Section}
 use Rattle.model.specs.declared.Outcome.{Outcome}
@@ -28,6 +29,7 @@ use Rattle.model.specs.declared.Check.the-variants.{Pass, Refuse}
 use Rattle.model.proofs.CaseTools.{allMatch, put, zeros, imageA, next, faultCode, refusalCode, answered}
 use Rattle.cases.proofs.SplitCases.{splitAndJoined}
 use Rattle.cases.proofs.GlobalCases.{given, globalEntries}
+use Rattle.cases.proofs.FetchCases.{fetches}
 
 -- 1 where it holds, 0 where not
 abbrev bit : Bool → ℕ
@@ -68,14 +70,20 @@ listing =
     ∷ (answered line11, refusalCode 15)
     ∷ []
 
--- what an AP permits: read and write in kernel mode, then in user mode
-abbrev rights : ℕ → ℕ × ℕ → ℕ × ℕ → List (ℕ × ℕ)
-rights ap kernel user =
-    (bit (permitted ap 0 false), kernel .0)
-    ∷ (bit (permitted ap 0 true), kernel .1)
-    ∷ (bit (permitted ap 1 false), user .0)
-    ∷ (bit (permitted ap 1 true), user .1)
+-- what an AP permits in a mode, told as read and write: the same with XN set; a fetch as a read, and none with XN set
+abbrev rightsIn : ℕ → ℕ → ℕ × ℕ → List (ℕ × ℕ)
+rightsIn mode ap may =
+    (bit (permitted ap mode ToRead 0), may .0)
+    ∷ (bit (permitted ap mode ToWrite 0), may .1)
+    ∷ (bit (permitted ap mode ToFetch 0), may .0)
+    ∷ (bit (permitted ap mode ToRead 1), may .0)
+    ∷ (bit (permitted ap mode ToWrite 1), may .1)
+    ∷ (bit (permitted ap mode ToFetch 1), 0)
     ∷ []
+
+-- in kernel mode, then in user mode
+abbrev rights : ℕ → ℕ × ℕ → ℕ × ℕ → List (ℕ × ℕ)
+rights ap kernel user = rightsIn 0 ap kernel ++ rightsIn 1 ap user
 
 -- The rights of each AP.
 permissions : List (ℕ × ℕ)
@@ -90,22 +98,26 @@ permissions =
     ++ rights 6 (1, 0) (1, 0)
     ++ rights 7 (1, 0) (1, 0)
 
--- the entry of a section's page, and of a page, as one number: one context's own with nG set, global with nG clear
+-- the entry of a section's page, and of a page, as one number: one context's own with nG set, global with nG clear; with XN clear
 abbrev ownSection : ℕ → ℕ → ℕ
-ownSection frame ap = frame * 32 + ap * 4 + 2
+ownSection frame ap = frame * 64 + ap * 8 + 4
 
 abbrev globalSection : ℕ → ℕ → ℕ
-globalSection frame ap = frame * 32 + ap * 4 + 3
+globalSection frame ap = frame * 64 + ap * 8 + 6
 
 abbrev ownPage : ℕ → ℕ → ℕ
-ownPage frame ap = frame * 32 + ap * 4
+ownPage frame ap = frame * 64 + ap * 8
 
 abbrev globalPage : ℕ → ℕ → ℕ
-globalPage frame ap = frame * 32 + ap * 4 + 1
+globalPage frame ap = frame * 64 + ap * 8 + 2
+
+-- the same entry with XN set
+abbrev withXn : ℕ → ℕ
+withXn x = x + 1
 
 -- an outcome: an entry or a fault
 abbrev outcome : Outcome → ℕ
-outcome (Mapped e) = e .frame * 32 + e .ap * 4 + e .section * 2 + e .global
+outcome (Mapped e) = e .frame * 64 + e .ap * 8 + e .section * 4 + e .global * 2 + e .xn
 outcome (Failed f) = faultCode (faultNumber f)
 
 -- the outcome of a page under root 0 with this level-one word
@@ -135,13 +147,20 @@ sections =
     ∷ (first 0x00000802 0, globalSection 0 2)
     -- every bit of base and AP, and the same with every ignored bit; every ignored bit alone
     ∷ (first 0xFFF08C02 0, globalSection 0xFFF00 7)
-    ∷ (first 0xFFF9FFFE 0, globalSection 0xFFF00 7)
-    ∷ (first 0x000973FE 0, globalSection 0 0)
+    ∷ (first 0xFFF9FFEE 0, globalSection 0xFFF00 7)
+    ∷ (first 0x000973EE 0, globalSection 0 0)
     -- nG, bit 17: alone, with every ignored bit, and with every other bit; bit 11 is AP's
     ∷ (first 0x00020002 0, ownSection 0 0)
-    ∷ (first 0x000B73FE 0, ownSection 0 0)
-    ∷ (first 0xFFFBFFFE 0, ownSection 0xFFF00 7)
+    ∷ (first 0x000B73EE 0, ownSection 0 0)
+    ∷ (first 0xFFFBFFEE 0, ownSection 0xFFF00 7)
     ∷ (first 0x00020802 0, ownSection 0 2)
+    -- XN, bit 4: alone, with every ignored bit, and with every other bit; bit 15 is AP's
+    ∷ (first 0x00000012 0, withXn (globalSection 0 0))
+    ∷ (first 0x000973FE 0, withXn (globalSection 0 0))
+    ∷ (first 0xFFF9FFFE 0, withXn (globalSection 0xFFF00 7))
+    ∷ (first 0x000B73FE 0, withXn (ownSection 0 0))
+    ∷ (first 0xFFFBFFFE 0, withXn (ownSection 0xFFF00 7))
+    ∷ (first 0x00008012 0, withXn (globalSection 0 4))
     -- the low eight frame bits come from the page
     ∷ (first 0x12300002 0x101, globalSection 0x12301 0)
     ∷ (first 0x12300002 0x180, globalSection 0x12380 0)
@@ -175,9 +194,10 @@ tables =
     ∷ (outcome (walkPage (put 0 0x00000401 atBase) 0 0), globalPage 0x12345 3)
     ∷ (outcome (walkPage (put 0 0x000007FD atBase) 0 0), globalPage 0x12345 3)
     ∷ (outcome (walkPage (put 0 0x80000401 atBase) 0 0), faultCode 0xE)
-    -- no bit of the level-one word is the nG of its pages
+    -- no bit of the level-one word is the nG of its pages, or their XN
     ∷ (outcome (walkPage (put 0 0x00000401 ownAtBase) 0 0), ownPage 0x12345 3)
     ∷ (outcome (walkPage (put 0 0x000007FD ownAtBase) 0 0), ownPage 0x12345 3)
+    ∷ (outcome (walkPage (put 0 0x00000401 (put 0x400 0x12345033 zeros)) 0 0), withXn (globalPage 0x12345 3))
     -- the level-one word of page 0x3FF is at 0xC from the root, its level-two word at 0x3FC from the table's base
     ∷ (outcome (walkPage atEnd 0x80 0x3FF), globalPage 0x12345 3)
     ∷ (outcome (walkPage atEnd 0x80 0x3FE), faultCode 0x7)
@@ -202,14 +222,21 @@ pages =
     ∷ (second 0x00000021 0, globalPage 0 2)
     -- every bit of base and AP, and the same with every ignored bit; every ignored bit alone
     ∷ (second 0xFFFF0231 0, globalPage 0xFFFF0 7)
-    ∷ (second 0xFFFFF7FD 0, globalPage 0xFFFF0 7)
-    ∷ (second 0x0000F5CD 0, globalPage 0 0)
+    ∷ (second 0xFFFF77FD 0, globalPage 0xFFFF0 7)
+    ∷ (second 0x000075CD 0, globalPage 0 0)
     -- nG, bit 11: alone, with every ignored bit, and with every other bit; bit 17 is the base's
     ∷ (second 0x00000801 0, ownPage 0 0)
-    ∷ (second 0x0000FDCD 0, ownPage 0 0)
-    ∷ (second 0xFFFFFFFD 0, ownPage 0xFFFF0 7)
+    ∷ (second 0x00007DCD 0, ownPage 0 0)
+    ∷ (second 0xFFFF7FFD 0, ownPage 0xFFFF0 7)
     ∷ (second 0x00020001 0, globalPage 0x20 0)
     ∷ (second 0x00020801 0, ownPage 0x20 0)
+    -- XN, bit 15: alone, with every ignored bit, and with every other bit; bit 4 is AP's, and bit 0 is set in every large page
+    ∷ (second 0x00008001 0, withXn (globalPage 0 0))
+    ∷ (second 0x0000F5CD 0, withXn (globalPage 0 0))
+    ∷ (second 0xFFFFF7FD 0, withXn (globalPage 0xFFFF0 7))
+    ∷ (second 0x0000FDCD 0, withXn (ownPage 0 0))
+    ∷ (second 0xFFFFFFFD 0, withXn (ownPage 0xFFFF0 7))
+    ∷ (second 0x00008011 0, withXn (globalPage 0 1))
     -- the low four frame bits come from the page
     ∷ (second 0x12340001 0x101, globalPage 0x12341 0)
     ∷ (second 0x12340001 0x108, globalPage 0x12348 0)
@@ -232,14 +259,17 @@ pages =
     ∷ (second 0xFFFFFFFE 0, ownPage 0xFFFFF 7)
     ∷ (second 0x00020002 0, globalPage 0x20 0)
     ∷ (second 0x00020802 0, ownPage 0x20 0)
-    -- kind 3 is a small page too
-    ∷ (second 0x00000003 0, globalPage 0 0)
-    ∷ (second 0x12345213 0, globalPage 0x12345 5)
-    ∷ (second 0xFFFFF7FF 0, globalPage 0xFFFFF 7)
-    ∷ (second 0x000005CF 0, globalPage 0 0)
-    ∷ (second 0x00000803 0, ownPage 0 0)
-    ∷ (second 0x00000DCF 0, ownPage 0 0)
-    ∷ (second 0xFFFFFFFF 0, ownPage 0xFFFFF 7)
+    -- kind 3 is a small page too, with XN, bit 0: alone, with every ignored bit, and with every other bit
+    ∷ (second 0x00000003 0, withXn (globalPage 0 0))
+    ∷ (second 0x12345213 0, withXn (globalPage 0x12345 5))
+    ∷ (second 0xFFFFF7FF 0, withXn (globalPage 0xFFFFF 7))
+    ∷ (second 0x000005CF 0, withXn (globalPage 0 0))
+    ∷ (second 0x00000803 0, withXn (ownPage 0 0))
+    ∷ (second 0x00000DCF 0, withXn (ownPage 0 0))
+    ∷ (second 0xFFFFFFFF 0, withXn (ownPage 0xFFFFF 7))
+    -- bit 15 is the base's, bit 4 AP's
+    ∷ (second 0x00008002 0, globalPage 8 0)
+    ∷ (second 0x00008013 0, withXn (globalPage 8 1))
     -- no frame bit of a small page comes from the page
     ∷ (second 0x12340002 0x3A5, globalPage 0x12340 0)
     -- kind 0: no mapping
@@ -318,9 +348,24 @@ faults small =
     ++ (answered (next Read 0x10 4 0 kernel), 0x44332211)
     ∷ (answered (next Read 0x100010 4 0 kernel), 0x44332211)
     ∷ (answered (next Read 0x110010 4 0 kernel), 0x44332211)
+    -- each of them at a fetch
+    ∷ inBoth 0x1 Fetch 0x12 0 0 0x80 small
+    ++ inBoth 0x5 Fetch 0x100010 0 0 0x80 small
+    ++ inBoth 0x7 Fetch 0x2010 0 0 0x80 small
+    ++ inBoth 0xC Fetch 0x10 0 0 0x1000 small
+    ++ inBoth 0xE Fetch 0x300010 0 0 0x80 small
+    ++ inBoth 0x8 Fetch 0x200010 0 0 0x80 guarded
+    ++ faulting 0xD Fetch 0x10 0 0 user
+    ++ faulting 0xF Fetch 0x100010 0 0 user
+    ++ faulting 0xF Fetch 0x110010 0 0 user
+    ++ (answered (next Fetch 0x10 0 0 kernel), 0x44332211)
+    ∷ (answered (next Fetch 0x100010 0 0 kernel), 0x44332211)
+    ∷ (answered (next Fetch 0x110010 0 0 kernel), 0x44332211)
     -- fault 1 before 5, and 0xD before 8
     ∷ faulting 0x1 Read 0x100001 2 0 (given 0x80 1 1 small emptyTrack)
+    ++ faulting 0x1 Fetch 0x100002 0 0 (given 0x80 1 1 small emptyTrack)
     ++ faulting 0xD Read 0x200010 4 0 (given 0x80 1 1 small emptyTrack)
+    ++ faulting 0xD Fetch 0x200010 0 0 (given 0x80 1 1 small emptyTrack)
 
 -- Each refusal. It changes no register, no memory and no track.
 refusals : List ℕ → List (ℕ × ℕ)
@@ -337,6 +382,8 @@ refusals small =
     ++ refusing 13 Mode 0 0 0 (given 0x80 0 0 small (replicate 2049 0))
     ++ refusing 14 Mode 0 0 0 (given 0x80 2 0 small emptyTrack)
     ++ refusing 15 All 0 0 0 user
+    ++ refusing 8 Fetch 0x400000 0 0 user
+    ++ refusing 16 Fetch 0x10 0 0 (given 0x80 1 0 small (set emptyTrack 1024 0x1602))
     ++ refusing 16 Read 0x10 4 0 (given 0x80 1 0 small (set emptyTrack 1024 0x1602))
     ++ refusing 16 Read 0x10 4 0 (given 0x80 1 0 small (set emptyTrack 2048 0x1682))
 
@@ -420,6 +467,11 @@ conditions =
     ∷ (inKernel Addr 0x400000 0 0, 8)
     ∷ (inKernel AddrCtx 0x3FFFFF 0 0, 0)
     ∷ (inKernel AddrCtx 0x400000 0 0, 8)
+    ∷ (inKernel Fetch 0x3FFFFF 0 0, 0)
+    ∷ (inKernel Fetch 0x3FFFFC 0 0, 0)
+    ∷ (inKernel Fetch 0x400000 0 0, 8)
+    ∷ (inKernel Fetch 0x400001 0 0, 8)
+    ∷ (inKernel Fetch 0xFFFFFFFC 0 0, 8)
     -- 9: value
     ∷ (inKernel Write 0 1 0xFF, 0)
     ∷ (inKernel Write 0 1 0x100, 9)
@@ -441,7 +493,11 @@ conditions =
     ∷ (inKernel Mode 1 0 0, 0)
     ∷ (inKernel Mode 2 0 0, 12)
     ∷ (inUser Mode 2 0 0, 12)
-    -- 15: all operations but read, write and mode need kernel mode
+    -- 7, 9, 10, 11 and 12 do not concern a fetch
+    ∷ (inKernel Fetch 0 3 0, 0)
+    ∷ (inKernel Fetch 0 1 0x100, 0)
+    ∷ (inKernel Fetch 0x44 0xFFFFFFFF 0xFFFFFFFF, 0)
+    -- 15: all operations but read, write, mode and fetch need kernel mode
     ∷ (inUser Read 0 4 0, 0)
     ∷ (inUser Write 0 4 0, 0)
     ∷ (inUser Root 0x80 0 0, 15)
@@ -451,6 +507,7 @@ conditions =
     ∷ (inUser Addr 0 0 0, 15)
     ∷ (inUser Ctx 0 0 0, 15)
     ∷ (inUser AddrCtx 0 0 0, 15)
+    ∷ (inUser Fetch 0 0 0, 0)
     ∷ (inKernel All 0 0 0, 0)
     ∷ []
 
@@ -461,6 +518,8 @@ order =
     -- 13 before 14, 14 before 7, 7 before 8, 8 before 9, 8 before 11
     (checked 4095 3072 0x40 2 2 Read 0 4 0, 13)
     ∷ (checked 4096 3072 0x80 2 0 Read 0 3 0, 14)
+    ∷ (checked 4095 3072 0x40 2 2 Fetch 0x400000 0 0, 13)
+    ∷ (checked 4096 3072 0x80 2 0 Fetch 0x400000 0 0, 14)
     ∷ (inKernel Read 0x400000 3 0, 7)
     ∷ (inKernel Write 0x400000 1 0x100, 8)
     ∷ (inKernel AddrCtx 0x400000 2 0, 8)
@@ -484,22 +543,22 @@ order =
     ∷ (refusal (firstFailing (startChecks 4096 264192 0x80)), 13)
     ∷ []
 
--- The place of refusal 16: behind fault 1, before every other fault. The track has one context.
-orderOf16 : List ℕ → List ℕ → List (ℕ × ℕ)
+-- The place of refusal 16 at a read, or at a fetch: behind fault 1, before every other fault. The track has one context.
+orderOf16 : Kind → List ℕ → List ℕ → List (ℕ × ℕ)
 unfolding next
-orderOf16 small stale =
+orderOf16 k small stale =
     let kernel = given 0x80 0 0 small stale in
     let user = given 0x80 0 1 small stale in
     -- fault 1 before 16
-    (answered (next Read 0x12 4 0 kernel), faultCode 1)
-    ∷ (answered (next Read 0x10 4 0 kernel), refusalCode 16)
+    (answered (next k 0x12 4 0 kernel), faultCode 1)
+    ∷ (answered (next k 0x10 4 0 kernel), refusalCode 16)
     -- 16 before faults 0xC, 5, 0xE, 7, 0xF and 8
-    ∷ (answered (next Read 0x10 4 0 (given 0x1000 0 0 small stale)), refusalCode 16)
-    ∷ (answered (next Read 0x100010 4 0 kernel), refusalCode 16)
-    ∷ (answered (next Read 0x300010 4 0 kernel), refusalCode 16)
-    ∷ (answered (next Read 0x2010 4 0 kernel), refusalCode 16)
-    ∷ (answered (next Read 0x1010 4 0 user), refusalCode 16)
-    ∷ (answered (next Read 0x200010 4 0 kernel), refusalCode 16)
+    ∷ (answered (next k 0x10 4 0 (given 0x1000 0 0 small stale)), refusalCode 16)
+    ∷ (answered (next k 0x100010 4 0 kernel), refusalCode 16)
+    ∷ (answered (next k 0x300010 4 0 kernel), refusalCode 16)
+    ∷ (answered (next k 0x2010 4 0 kernel), refusalCode 16)
+    ∷ (answered (next k 0x1010 4 0 user), refusalCode 16)
+    ∷ (answered (next k 0x200010 4 0 kernel), refusalCode 16)
     ∷ []
 
 -- The order is the same where the pages are stale by the context's row and where they are by the global row.
@@ -510,8 +569,10 @@ staleOrder small =
     let stale : List ℕ = replicate 1024 0x7002 in
     let staleGlobal : List ℕ = replicate 1024 0x7082 in
     let free : List ℕ = replicate 1024 0 in
-    orderOf16 small (stale ++ free)
-    ++ orderOf16 small (free ++ staleGlobal)
+    orderOf16 Read small (stale ++ free)
+    ++ orderOf16 Read small (free ++ staleGlobal)
+    ++ orderOf16 Fetch small (stale ++ free)
+    ++ orderOf16 Fetch small (free ++ staleGlobal)
     -- the words of another context don't matter, those of the global row do in every context
     ++ (answered (next Read 0x10 4 0 (given 0x80 1 0 small (stale ++ (free ++ free)))), 0x44332211)
     ∷ (answered (next Read 0x10 4 0 (given 0x80 1 0 small (free ++ (free ++ staleGlobal)))), refusalCode 16)
@@ -670,11 +731,15 @@ registers small =
     tracked other (0x602, 0x202, 0) (0x602, 0x202, 0) (0, 0, 0)
     -- `root` notes with the new root: page 0 gains a different entry, page 1 the same, page 2 its first
     ++ tracked moved (0x602, 0x202, 0) (1, 0x202, 0x6602) (0, 0, 0)
-    -- noting follows `mode`, a read, a write and a fault
+    -- noting follows `mode`, a read, a write, a fetch and a fault
     ++ tracked (next Mode 1 0 0 empty) (0, 0, 0) (0x602, 0x202, 0) (0, 0, 0)
     ++ tracked (next Read 0x10 4 0 empty) (0, 0, 0) (0x602, 0x202, 0) (0, 0, 0)
     ++ tracked (next Write 0x10 4 0 empty) (0, 0, 0) (0x602, 0x202, 0) (0, 0, 0)
+    ++ tracked (next Fetch 0x10 0 0 empty) (0, 0, 0) (0x602, 0x202, 0) (0, 0, 0)
     ++ tracked (next Read 0x100000 4 0 empty) (0, 0, 0) (0x602, 0x202, 0) (0, 0, 0)
+    ++ tracked (next Fetch 0x100001 0 0 empty) (0, 0, 0) (0x602, 0x202, 0) (0, 0, 0)
+    -- and not a refusal
+    ++ tracked (next Fetch 0x400000 0 0 empty) (0, 0, 0) (0, 0, 0) (0, 0, 0)
     -- each answers 0 and sets its own register; `mode` does in both modes
     ++ (answered other, 0)
     ∷ (answered moved, 0)
@@ -701,7 +766,8 @@ descriptors small =
     let changed = next Write 0x404 4 0x832 start in
     let back = next Write 0x404 4 0x812 changed in
     let flushed = next Addr 0x1000 0 0 back in
-    let ignored = next Write 0x404 4 0xDDF start in
+    let ignored = next Write 0x404 4 0xDDE start in
+    let unfetchable = next Write 0x404 4 0xDDF start in
     let unmapped = next Write 0x404 4 0 start in
     let elsewhere = next Write 0x404 4 0x1812 unmapped in
     let mapped = next Write 0x408 4 0x812 start in
@@ -714,9 +780,12 @@ descriptors small =
     -- until a flush
     ∷ (wordAt (flushed .track) 0 1, 0x202)
     ∷ (answered (next Read 0x1010 4 0 flushed), 0x44332211)
-    -- every ignored bit changed, and kind 2 to kind 3: the same entry
+    -- every ignored bit changed: the same entry
     ∷ (wordAt (ignored .track) 0 1, 0x202)
     ∷ (answered (next Read 0x1010 4 0 ignored), 0x44332211)
+    -- and kind 2 to kind 3, which is XN: another entry
+    ∷ (wordAt (unfetchable .track) 0 1, 1)
+    ∷ (answered (next Read 0x1010 4 0 unfetchable), refusalCode 16)
     -- no mapping any more: the word stays, the page is stale, before fault 7; an unaligned access is fault 1
     ∷ (wordAt (unmapped .track) 0 1, 0x202)
     ∷ (answered (next Read 0x1010 4 0 unmapped), refusalCode 16)
@@ -729,23 +798,30 @@ descriptors small =
     ∷ []
 
 -- words of a context's row that are neither 0, nor 1, nor an entry's of that row: bit 1 clear, or a bit set that such an entry has clear,
--- bit 7 among them, without and with bit 8
+-- bit 7 among them, without and with bit 8, and with bit 6
 abbrev oddWords : List ℕ
 oddWords =
-    0x1000 ∷ 0x1003 ∷ 0x1006 ∷ 0x100A ∷ 0x1012 ∷ 0x1022 ∷ 0x1042 ∷ 0x1082
-    ∷ 0x1100 ∷ 0x1103 ∷ 0x1106 ∷ 0x110A ∷ 0x1112 ∷ 0x1122 ∷ 0x1142 ∷ 0x1182
+    0x1000 ∷ 0x1003 ∷ 0x1006 ∷ 0x100A ∷ 0x1012 ∷ 0x1022 ∷ 0x1082
+    ∷ 0x1100 ∷ 0x1103 ∷ 0x1106 ∷ 0x110A ∷ 0x1112 ∷ 0x1122 ∷ 0x1182
+    ∷ 0x1040 ∷ 0x1043 ∷ 0x1046 ∷ 0x104A ∷ 0x1052 ∷ 0x1062 ∷ 0x10C2 ∷ 0x11C2
     ∷ 3 ∷ 4 ∷ 7 ∷ 0xFFFFFFFF ∷ []
 
 -- the same of the global row, whose entries have bit 7 set
 abbrev oddGlobalWords : List ℕ
 oddGlobalWords =
-    0x1080 ∷ 0x1083 ∷ 0x1086 ∷ 0x108A ∷ 0x1092 ∷ 0x10A2 ∷ 0x10C2 ∷ 0x1002
-    ∷ 0x1180 ∷ 0x1183 ∷ 0x1186 ∷ 0x118A ∷ 0x1192 ∷ 0x11A2 ∷ 0x11C2 ∷ 0x1102
+    0x1080 ∷ 0x1083 ∷ 0x1086 ∷ 0x108A ∷ 0x1092 ∷ 0x10A2 ∷ 0x1002
+    ∷ 0x1180 ∷ 0x1183 ∷ 0x1186 ∷ 0x118A ∷ 0x1192 ∷ 0x11A2 ∷ 0x1102
+    ∷ 0x10C0 ∷ 0x10C3 ∷ 0x10C6 ∷ 0x10CA ∷ 0x10D2 ∷ 0x10E2 ∷ 0x1042 ∷ 0x1142
     ∷ 3 ∷ 4 ∷ 7 ∷ 0xFFFFFFFF ∷ []
 
--- the entry with frame 1 and AP 0 that a page gives, or a section, a context's own (0) or global (1)
-abbrev entry1 : ℕ → ℕ → Entry
-entry1 section global = record { frame = 1; ap = 0; section = section; global = global }
+-- the entry with frame 1 and AP 0 that a page gives, or a section, a context's own (0) or global (1), with XN clear or set
+abbrev entry1 : ℕ → ℕ → ℕ → Entry
+entry1 section global xn = record { frame = 1; ap = 0; section = section; global = global; xn = xn }
+
+-- whether a word of a row of kind g makes stale a page with this entry, of a page and of a section
+abbrev staleWith : ℕ → ℕ → ℕ → ℕ → List (ℕ × ℕ)
+staleWith g w global xn =
+    (bit (staleWord g w (Mapped (entry1 0 global xn))), 1) ∷ (bit (staleWord g w (Mapped (entry1 1 global xn))), 1) ∷ []
 
 -- an odd word of a row of kind g, 0 a context's or 1 the global row, stays when an entry is added, and its page is stale whatever the
 -- tables say, even an entry with that word
@@ -753,22 +829,25 @@ abbrev staysOdd : ℕ → List ℕ → List (ℕ × ℕ)
 staysOdd g [] = []
 staysOdd g (w ∷ ws) =
     (addEntry g w (0x1002 + 128 * g), w)
-    ∷ (bit (staleWord g w (Mapped (entry1 0 0))), 1)
-    ∷ (bit (staleWord g w (Mapped (entry1 0 1))), 1)
-    ∷ (bit (staleWord g w (Mapped (entry1 1 0))), 1)
-    ∷ (bit (staleWord g w (Mapped (entry1 1 1))), 1)
+    ∷ (addEntry g w (0x1042 + 128 * g), w)
     ∷ (bit (staleWord g w (Failed SecondUnmapped)), 1)
-    ∷ staysOdd g ws
+    ∷ staleWith g w 0 0
+    ++ staleWith g w 1 0
+    ++ staleWith g w 0 1
+    ++ staleWith g w 1 1
+    ++ staysOdd g ws
 
 -- an entry added, and the stale test, in a row of kind g
 abbrev inRowOf : ℕ → List (ℕ × ℕ)
 inRowOf g =
-    -- the words of that row's entries with frame 1 and AP 0, of a page and of a section
+    -- the words of that row's entries with frame 1 and AP 0, of a page, of a section, and of a page with XN
     let word = 0x1002 + 128 * g in
     let sectionWord = 0x1102 + 128 * g in
-    let present = Mapped (entry1 0 g) in
-    let ofSection = Mapped (entry1 1 g) in
-    -- an entry added to an empty set, to itself, to one of another frame, of another AP, of a section, to two
+    let xnWord = 0x1042 + 128 * g in
+    let present = Mapped (entry1 0 g 0) in
+    let ofSection = Mapped (entry1 1 g 0) in
+    let ofXn = Mapped (entry1 0 g 1) in
+    -- an entry added to an empty set, to itself, to one of another frame, of another AP, of a section, of another XN, to two
     (addEntry g 0 word, word)
     ∷ (addEntry g word word, word)
     ∷ (addEntry g (word + 0x1000) word, 1)
@@ -776,8 +855,12 @@ inRowOf g =
     ∷ (addEntry g sectionWord word, 1)
     ∷ (addEntry g word sectionWord, 1)
     ∷ (addEntry g sectionWord sectionWord, sectionWord)
+    ∷ (addEntry g xnWord word, 1)
+    ∷ (addEntry g word xnWord, 1)
+    ∷ (addEntry g xnWord xnWord, xnWord)
     ∷ (addEntry g (2 + 128 * g) word, 1)
     ∷ (addEntry g (0xFFFFFE02 + 128 * g) word, 1)
+    ∷ (addEntry g (0xFFFFFF42 + 128 * g) word, 1)
     ∷ (addEntry g 1 word, 1)
     -- stale: a set with an entry different from the present outcome
     ∷ (bit (staleWord g 0 present), 0)
@@ -787,14 +870,17 @@ inRowOf g =
     ∷ (bit (staleWord g sectionWord present), 1)
     ∷ (bit (staleWord g word ofSection), 1)
     ∷ (bit (staleWord g sectionWord ofSection), 0)
+    ∷ (bit (staleWord g xnWord present), 1)
+    ∷ (bit (staleWord g word ofXn), 1)
+    ∷ (bit (staleWord g xnWord ofXn), 0)
     ∷ (bit (staleWord g 1 present), 1)
     ∷ (bit (staleWord g 0 (Failed SecondUnmapped)), 0)
     ∷ (bit (staleWord g word (Failed SecondUnmapped)), 1)
     ∷ (bit (staleWord g 1 (Failed SecondUnmapped)), 1)
     ∷ (bit (staleWord g word (Failed FirstOutside)), 1)
     -- and one of the other row's entries as the present outcome
-    ∷ (bit (staleWord g 0 (Mapped (entry1 0 (1 - g)))), 0)
-    ∷ (bit (staleWord g word (Mapped (entry1 0 (1 - g)))), 1)
+    ∷ (bit (staleWord g 0 (Mapped (entry1 0 (1 - g) 0))), 0)
+    ∷ (bit (staleWord g word (Mapped (entry1 0 (1 - g) 0))), 1)
     ∷ []
 
 -- The words of the track.
@@ -804,20 +890,22 @@ words small =
     let odd = given 0x80 0 0 small (7 ∷ 0x206 ∷ 0x1006 ∷ 3 ∷ replicate 2044 0) in
     let noted = next Mode 0 0 0 odd in
     let cleared = next Addr 0 0 0 noted in
-    -- the word of one entry: frame in bits 31..12, AP in bits 11..9, section in bit 8, global in bit 7, bit 1 set
-    (entryWord (record { frame = 0; ap = 0; section = 0; global = 0 }), 0x00000002)
-    ∷ (entryWord (record { frame = 1; ap = 0; section = 0; global = 0 }), 0x00001002)
-    ∷ (entryWord (record { frame = 0x80000; ap = 0; section = 0; global = 0 }), 0x80000002)
-    ∷ (entryWord (record { frame = 0; ap = 1; section = 0; global = 0 }), 0x00000202)
-    ∷ (entryWord (record { frame = 0; ap = 4; section = 0; global = 0 }), 0x00000802)
-    ∷ (entryWord (record { frame = 0; ap = 0; section = 1; global = 0 }), 0x00000102)
-    ∷ (entryWord (record { frame = 0; ap = 0; section = 0; global = 1 }), 0x00000082)
-    ∷ (entryWord (record { frame = 0xFFFFF; ap = 7; section = 1; global = 1 }), 0xFFFFFF82)
+    -- the word of one entry: frame in bits 31..12, AP in bits 11..9, section in bit 8, global in bit 7, XN in bit 6, bit 1 set
+    (entryWord (record { frame = 0; ap = 0; section = 0; global = 0; xn = 0 }), 0x00000002)
+    ∷ (entryWord (record { frame = 1; ap = 0; section = 0; global = 0; xn = 0 }), 0x00001002)
+    ∷ (entryWord (record { frame = 0x80000; ap = 0; section = 0; global = 0; xn = 0 }), 0x80000002)
+    ∷ (entryWord (record { frame = 0; ap = 1; section = 0; global = 0; xn = 0 }), 0x00000202)
+    ∷ (entryWord (record { frame = 0; ap = 4; section = 0; global = 0; xn = 0 }), 0x00000802)
+    ∷ (entryWord (record { frame = 0; ap = 0; section = 1; global = 0; xn = 0 }), 0x00000102)
+    ∷ (entryWord (record { frame = 0; ap = 0; section = 0; global = 1; xn = 0 }), 0x00000082)
+    ∷ (entryWord (record { frame = 0; ap = 0; section = 0; global = 0; xn = 1 }), 0x00000042)
+    ∷ (entryWord (record { frame = 0xFFFFF; ap = 7; section = 1; global = 1; xn = 0 }), 0xFFFFFF82)
+    ∷ (entryWord (record { frame = 0xFFFFF; ap = 7; section = 1; global = 1; xn = 1 }), 0xFFFFFFC2)
     -- a section and a page with the same frame and AP, own and global
-    ∷ (entryWord (record { frame = 0x123; ap = 3; section = 1; global = 0 }), 0x00123702)
-    ∷ (entryWord (record { frame = 0x123; ap = 3; section = 0; global = 0 }), 0x00123602)
-    ∷ (entryWord (record { frame = 0x123; ap = 3; section = 1; global = 1 }), 0x00123782)
-    ∷ (entryWord (record { frame = 0x123; ap = 3; section = 0; global = 1 }), 0x00123682)
+    ∷ (entryWord (record { frame = 0x123; ap = 3; section = 1; global = 0; xn = 0 }), 0x00123702)
+    ∷ (entryWord (record { frame = 0x123; ap = 3; section = 0; global = 0; xn = 0 }), 0x00123602)
+    ∷ (entryWord (record { frame = 0x123; ap = 3; section = 1; global = 1; xn = 0 }), 0x00123782)
+    ∷ (entryWord (record { frame = 0x123; ap = 3; section = 0; global = 1; xn = 0 }), 0x00123682)
     -- by steps: odd words stay under noting, and make their pages stale
     ∷ (wordAt (noted .track) 0 0, 7)
     ∷ (wordAt (noted .track) 0 1, 0x206)
@@ -844,13 +932,13 @@ words small =
 
 pub widerCases : List (ℕ × ℕ)
 unfolding listing permissions sections tables pages faults refusals conditions order staleOrder flushes sizes starting
-    registers descriptors words splitAndJoined globalEntries
+    registers descriptors words splitAndJoined globalEntries fetches
 widerCases =
     let small = smallImage in
     listing ++ permissions ++ sections ++ tables ++ pages
     ++ faults small ++ refusals small ++ conditions ++ order ++ staleOrder small
     ++ flushes small ++ sizes small ++ starting small ++ registers small ++ descriptors small ++ words small ++ splitAndJoined
-    ++ globalEntries
+    ++ globalEntries ++ fetches
 
 pub wider-cases : allMatch widerCases ≡ true
 unfolding widerCases

@@ -6,9 +6,9 @@ use mathlib.Core.List.{[], _∷_}
 use lib.ListN.{replicate}
 use Rattle.model.specs.Limits.{pageSize}
 use Rattle.model.specs.Numbers.{refused, shown}
-use Rattle.model.specs.reference.Rules.{found, failed, fresh, outcome, carriedOut, plainStep, walk, descriptor, tableWord, pageWord, globalBy, smallPage, bits, value, inMemory, effect, access, translated, touched, stored, aligned, allows, rightOf, physical, among}
+use Rattle.model.specs.reference.Rules.{found, failed, fresh, outcome, carriedOut, plainStep, walk, descriptor, tableWord, pageWord, globalBy, smallPage, bits, value, inMemory, effect, access, translated, touched, stored, aligned, accessSize, mayRead, mayWrite, permits, rightOf, physical, among}
 use Rattle.model.specs.reference.Runs.{last, next, checkerRun, isRefused, told}
-use Rattle.model.specs.Invisible.{Session, Accepted, toldOf, atEnd, alignedAccess, CouldDiffer, checker}
+use Rattle.model.specs.Invisible.{Session, Accepted, toldOf, atEnd, isAccess, alignedAccess, CouldDiffer, checker}
 use Rattle.model.specs.declared.Operation.{Operation}
 use Rattle.model.specs.declared.Kind.the-variants.{Read, Write}
 use Rattle.model.specs.declared.Entry.{Entry}
@@ -23,19 +23,19 @@ unfoldable pub readBack : Operation
 readBack = record { kind = Read; a = 0x1000; b = 4; c = 0 }
 
 -- the entry that image A's tables give page 1 at first
-pub old : Entry
-old = record { frame = 3; ap = 3; section = 0; global = 0 }
+unfoldable pub old : Entry
+old = record { frame = 3; ap = 3; section = 0; global = 0; xn = 0 }
 
-pub case : Session
+unfoldable pub case : Session
 case = record { image = imageA; track = replicate 2048 0; root = 0; operations = unmap ∷ [] }
 
-accepted : Accepted checker case
+pub accepted : Accepted checker case
 unfolding case isRefused stepOn
 accepted = refl
 
 -- the read is an aligned access
 pub read-aligned : alignedAccess readBack ≡ true
-unfolding alignedAccess among aligned readBack
+unfolding alignedAccess isAccess among accessSize aligned readBack
 read-aligned = refl
 
 -- it is refused as stale
@@ -59,10 +59,10 @@ unfolding outcome fresh walk descriptor tableWord pageWord smallPage globalBy bi
 before-write = refl
 
 after-write : outcome (plainStep unmap false (fresh imageA 0) .1) (1 * pageSize) ≡ failed 0x7
-unfolding plainStep carriedOut effect access translated touched stored aligned allows rightOf physical outcome fresh walk descriptor tableWord pageWord smallPage bits value inMemory unmap
+unfolding plainStep carriedOut effect access translated touched stored aligned accessSize among mayRead mayWrite permits rightOf physical outcome fresh walk descriptor tableWord pageWord smallPage bits value inMemory unmap
 after-write = refl
 
-throughout : Throughout 0 1 old (fresh imageA 0) (toldOf checker case)
+pub throughout : Throughout 0 1 old (fresh imageA 0) (toldOf checker case)
 throughout =
     subst (Throughout 0 1 old (fresh imageA 0)) (sym told-is)
     (unfold Throughout in (still before-write (unfold fresh in refl), gone 0x7 after-write))

@@ -9,13 +9,12 @@ use native.Mathlib.Omega.{arith}
 use lib.ListN.{length, getD, replicate, length-replicate}
 use Rattle.model.specs.Limits.{pageSize}
 use Rattle.model.specs.Numbers.{Result, ok, fault, refused, shown}
-use Rattle.model.specs.reference.Rules.{Translation, State, fresh, outcome, carriedOut, plainStep, walk, descriptor, tableWord, section, bits, value, inMemory, effect, access, translated, touched, aligned, allows, rightOf, physical, among, trackWord, stale, kept, differs, conditions, Given, refuses16, setRegisters, chipOutcome, orWalk, chipStep, moves, move, isFree, heldFor, putIn, flushPlace, flushes, anyClash, matches, covers, heldScope, scopeOf, globalBy, Scope, own, global}
+use Rattle.model.specs.reference.Rules.{Translation, State, fresh, outcome, carriedOut, plainStep, walk, descriptor, tableWord, section, bits, value, inMemory, effect, access, translated, touched, aligned, accessSize, mayRead, mayWrite, permits, rightOf, physical, among, accesses, trackWord, stale, kept, differs, conditions, Given, refuses16, setRegisters, chipOutcome, orWalk, chipStep, moves, move, isFree, heldFor, putIn, flushPlace, flushes, anyClash, matches, covers, heldScope, scopeOf, globalBy, Scope, own, global}
 use Rattle.model.specs.reference.Runs.{Checker, next, checkerRun, isRefused, seen, told, plainRun, chipStart, chipNext, chipRun, chipSeen}
 use Rattle.model.specs.step.Checks.{checks}
 use Rattle.model.specs.step.Machine.{After, turnedBack, started, stepped}
-use Rattle.model.specs.Invisible.{Session, Accepted, checkerRunOf, toldOf, plainRunOf, alignedAccess, Same, checker}
+use Rattle.model.specs.Invisible.{Session, Accepted, checkerRunOf, toldOf, plainRunOf, isAccess, alignedAccess, Same, checker}
 use Rattle.model.specs.Wrong.{SameBegins, SamePlain, SameChip, StaleOnlyThen, StaleAlwaysThen, SaysStaleAtOnce, Orderly, Copies, GoesByTrack, NeverStale}
-use Rattle.model.specs.declared.Kind.the-variants.{Read, Write}
 use Rattle.model.specs.declared.Registers.{Registers}
 use Rattle.model.specs.declared.Operation.{Operation}
 use Rattle.model.specs.declared.Answer.{Answer}
@@ -126,7 +125,7 @@ unfolding readsZero readOnce headAnswer session image track0 readPage2 checkerRu
 zero-read = refl
 
 seven-read : headAnswer (plainRunOf readsZero readOnce) ≡ some (ok 7)
-unfolding readsZero readOnce headAnswer session image track0 readPage2 told isRefused stepOn plainRun plainStep carriedOut effect access translated touched aligned allows rightOf physical fresh outcome walk descriptor tableWord section bits value inMemory
+unfolding readsZero readOnce headAnswer session image track0 readPage2 told isRefused stepOn plainRun plainStep carriedOut effect access translated touched aligned accessSize among mayRead mayWrite permits rightOf physical fresh outcome walk descriptor tableWord section bits value inMemory
 seven-read = refl
 
 pub reads-zero-refuted : SamePlain readsZero → ⊥
@@ -148,11 +147,11 @@ thirdAnswer (x ∷ y ∷ zs) = headAnswer zs
 
 -- the plain machine faults; a chip of one place that loaded page 2 after the first operation reads the 7
 plain-faults : thirdAnswer (plainRun (fresh image 0) readAfter) ≡ some (fault 0x5)
-unfolding thirdAnswer headAnswer plainRun plainStep carriedOut effect setRegisters access translated aligned fresh outcome walk descriptor tableWord bits value inMemory readPage2 toRoot image
+unfolding thirdAnswer headAnswer plainRun plainStep carriedOut effect setRegisters access translated aligned accessSize among fresh outcome walk descriptor tableWord bits value inMemory readPage2 toRoot image
 plain-faults = refl
 
 chip-reads : thirdAnswer (map chipSeen (chipRun (chipStart 1 (fresh image 0) []) readAfter afterFirst)) ≡ some (ok 7)
-unfolding thirdAnswer headAnswer chipRun chipStart chipNext chipStep chipSeen chipOutcome orWalk effect setRegisters access translated touched aligned allows rightOf physical fresh moves move isFree heldFor matches anyClash putIn outcome walk descriptor tableWord section globalBy bits value inMemory heldScope scopeOf covers flushPlace flushes readPage2 toRoot image afterFirst
+unfolding thirdAnswer headAnswer chipRun chipStart chipNext chipStep chipSeen chipOutcome orWalk effect setRegisters access translated touched aligned accessSize among mayRead mayWrite permits rightOf physical fresh moves move isFree heldFor matches anyClash putIn outcome walk descriptor tableWord section globalBy bits value inMemory heldScope scopeOf covers flushPlace flushes readPage2 toRoot image afterFirst
 chip-reads = refl
 
 faults-reads : _≡_ {A = Option Result} (some (fault 0x5)) (some (ok 7)) → ⊥
@@ -205,7 +204,7 @@ pub alwaysStale : Checker
 alwaysStale = record { start = started; step = λ o g i t. cond (alignedAccess o) (turnedBack StalePage g i t) (stepped o g i t) }
 
 says-at-once : SaysStaleAtOnce alwaysStale
-unfolding alwaysStale session image track0 readPage2 isRefused stepOn alignedAccess among aligned
+unfolding alwaysStale session image track0 readPage2 isRefused stepOn alignedAccess isAccess among accessSize aligned
 says-at-once = record { session = session 0 []; operation = readPage2; nothingBefore = refl; accepted = refl; access = refl; says16 = refl }
 
 pub always-stale-refuted : StaleOnlyThen alwaysStale → ⊥
@@ -242,7 +241,7 @@ unfolding forgetful refuses16
 emptied-never o g i t q =
     let y = walk i (g .root) (o .a) in
     true≢false
-    (sym (and-both (among (o .kind) (Read ∷ Write ∷ []) && aligned (o .a) (o .b)) (stale (emptied t) (g .context) (o .a / pageSize) y) (by-track .says16 o g i (emptied t) q) .1)
+    (sym (and-both (among (o .kind) accesses && aligned (o .a) (accessSize o)) (stale (emptied t) (g .context) (o .a / pageSize) y) (by-track .says16 o g i (emptied t) q) .1)
     ∙ emptied-free t (g .context) (o .a / pageSize) y)
 
 -- it refuses by other numbers as the rules do: their conditions ask no more of the track than its length

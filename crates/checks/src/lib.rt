@@ -35,6 +35,7 @@ pub fn address_fits(kind: Kind, a: u32) -> bool
         Kind::Write => a < 4194304, // addressLimit
         Kind::Addr => a < 4194304, // addressLimit
         Kind::AddrCtx => a < 4194304, // addressLimit
+        Kind::Fetch => a < 4194304, // addressLimit
         _ => true,
     }
 }
@@ -89,6 +90,7 @@ pub fn may_ask(kind: Kind, mode: u32) -> bool
         Kind::Read => true,
         Kind::Write => true,
         Kind::Mode => true,
+        Kind::Fetch => true,
         _ => mode == 0,
     }
 }

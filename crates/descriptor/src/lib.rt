@@ -15,6 +15,7 @@ pub fn section_entry(w: u32, page: usize) -> Entry
         ap: w / 32768 % 2 * 4 + w / 1024 % 4,
         section: 1,
         global: 1 - w / 131072 % 2,
+        xn: w / 16 % 2,
     }
 }
 
@@ -27,6 +28,7 @@ pub fn large_entry(w: u32, page: usize) -> Entry
         ap: w / 512 % 2 * 4 + w / 16 % 4,
         section: 0,
         global: 1 - w / 2048 % 2,
+        xn: w / 32768 % 2,
     }
 }
 
@@ -39,6 +41,7 @@ pub fn small_entry(w: u32) -> Entry
         ap: w / 512 % 2 * 4 + w / 16 % 4,
         section: 0,
         global: 1 - w / 2048 % 2,
+        xn: w % 2,
     }
 }
 

@@ -58,9 +58,15 @@ callCases =
     ∷ (byte 0x3000 (called 1 0x1000 2 0xABCD kernel), 0xCD)
     ∷ (byte 0x3001 (called 1 0x1000 2 0xABCD kernel), 0xAB)
     ∷ (byte 0x3002 (called 1 0x1000 2 0xABCD kernel), 0x34)
+    -- a fetch: the address is the second word, the others are ignored; its value, fault 1 and refusal 8
+    ∷ (called 9 0x1000 0 0 kernel .number, 0x12345678)
+    ∷ (called 9 0x1000 3 0xFFFFFFFF kernel .number, 0x12345678)
+    ∷ (called 9 0x1000 0 0 (0 ∷ 0 ∷ 1 ∷ []) .number, 0x12345678)
+    ∷ (called 9 0x1002 0 0 kernel .number, 0x100000001)
+    ∷ (called 9 0x400001 0 0 kernel .number, 0x200000008)
     -- refused: 7; and no such kind
     ∷ (called 0 0x1000 3 0 kernel .number, 0x200000007)
-    ∷ (called 9 0 0 0 kernel .number, 0x300000000)
+    ∷ (called 10 0 0 0 kernel .number, 0x300000000)
     ∷ []
 
 pub call-cases : allMatch callCases ≡ true
@@ -83,6 +89,10 @@ walkCases =
     -- and bit 7 where the page is global
     ∷ (walkAnswer outside 0 0x3AB000, 0x300AB782)
     ∷ (walkAnswer (put 0x404 0x3032 imageA) 0 0x1000, 0x3682)
+    -- and bit 6 where nothing may be fetched: a small page's bit 0, a large page's bit 15, a section's bit 4
+    ∷ (walkAnswer (put 0x404 0x3833 imageA) 0 0x1000, 0x3642)
+    ∷ (walkAnswer (put 0x404 0x8831 imageA) 0 0x1000, 0x1642)
+    ∷ (walkAnswer (put 0x8 0x30020C12 imageA) 0 0x2AB000, 0x300AB742)
     -- the faults of the walk: 0xC, 5, 0xE and 7
     ∷ (walkAnswer imageA 0x8000 0, 0x10000000C)
     ∷ (walkAnswer imageA 0 0x100000, 0x100000005)

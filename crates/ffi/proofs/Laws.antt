@@ -9,7 +9,7 @@ use borrow.Author.Tests.{eqb-true, eq-eqb, ne-eqb}
 use Rattle.model.proofs.BoolLaws.{allBelow, at-each}
 use Rattle.model.specs.Numbers.{kindNumber}
 use Rattle.model.specs.declared.Kind.{Kind}
-use Rattle.model.specs.declared.Kind.the-variants.{Read, Write, Root, Asid, Mode, All, Addr, Ctx, AddrCtx}
+use Rattle.model.specs.declared.Kind.the-variants.{Read, Write, Root, Asid, Mode, All, Addr, Ctx, AddrCtx, Fetch}
 use Rattle.model.specs.declared.Operation.{Operation}
 use Rattle.model.specs.declared.Registers.{Registers}
 use Rattle.model.specs.declared.Returned.{Returned}
@@ -40,7 +40,7 @@ module _ (o r m t : List ℕ) where
   unfolding areWords
   three w = go (eqb (length o) 4) (eqb (length r) 3) refl w
     where
-      go : (a b : Bool) → eqb (length r) 3 ≡ b → cond a (cond b (ltb (getD o 0 0) 9) false) false ≡ true → length r ≡ 3
+      go : (a b : Bool) → eqb (length r) 3 ≡ b → cond a (cond b (ltb (getD o 0 0) 10) false) false ≡ true → length r ≡ 3
       go true true e p = eqb-true (length r) 3 e
       go true false e p = absurd (true≢false (sym p))
       go false b e p = absurd (true≢false (sym p))
@@ -55,10 +55,10 @@ module _ (m t : List ℕ) (root : ℕ) (r : List ℕ) where
   unfolding startCall
   start-not n = rw (ne-eqb (length r) 3 n) (record { number = refl; registers = refl; memory = refl; track = refl })
 
--- the kind with a number below 9 has that number: one test over the nine
-kind-back : (n : ℕ) → n < 9 → kindNumber (kindFrom n) ≡ n
+-- the kind with a number below 10 has that number: one test over the ten
+kind-back : (n : ℕ) → n < 10 → kindNumber (kindFrom n) ≡ n
 unfolding kindFrom allBelow
-kind-back n h = eqb-true (kindNumber (kindFrom n)) n (at-each 9 (λ i. eqb (kindNumber (kindFrom i)) i) refl n h)
+kind-back n h = eqb-true (kindNumber (kindFrom n)) n (at-each 10 (λ i. eqb (kindNumber (kindFrom i)) i) refl n h)
 
 pub kind-numbers : KindNumbers
 unfolding kindFrom
@@ -74,3 +74,4 @@ kind-numbers = record { there = there; back = kind-back }
     there Addr = refl
     there Ctx = refl
     there AddrCtx = refl
+    there Fetch = refl

@@ -9,7 +9,7 @@ use Rattle.model.specs.Numbers.{kindNumber, Result, ok, fault, refused, shown}
 use Rattle.model.specs.step.Machine.{After, stepped, started}
 use Rattle.model.specs.declared.Answer.{Answer}
 use Rattle.model.specs.declared.Kind.{Kind}
-use Rattle.model.specs.declared.Kind.the-variants.{Read, Write, Root, Asid, Mode, All, Addr, Ctx, AddrCtx}
+use Rattle.model.specs.declared.Kind.the-variants.{Read, Write, Root, Asid, Mode, All, Addr, Ctx, AddrCtx, Fetch}
 use Rattle.model.specs.declared.Operation.{Operation}
 use Rattle.model.specs.declared.Registers.{Registers}
 
@@ -23,12 +23,13 @@ kindFrom k =
     (cond (eqb k 4) Mode
     (cond (eqb k 5) All
     (cond (eqb k 6) Addr
-    (cond (eqb k 7) Ctx AddrCtx)))))))
+    (cond (eqb k 7) Ctx
+    (cond (eqb k 8) AddrCtx Fetch))))))))
 
 -- Kinds have the numbers of the rules, one to one.
 pub record KindNumbers : Type 0 where
   pub there : (k : Kind) → kindFrom (kindNumber k) ≡ k
-  pub back : (n : ℕ) → n < 9 → kindNumber (kindFrom n) ≡ n
+  pub back : (n : ℕ) → n < 10 → kindNumber (kindFrom n) ≡ n
 
 -- kind, a, b and c as four words
 unfoldable pub operationFrom : List ℕ → Operation
@@ -73,7 +74,7 @@ notCalled r m t = record { number = 0x300000000; registers = r; memory = m; trac
 
 -- whether these are the words of an operation, and of registers
 unfoldable pub areWords : List ℕ → List ℕ → Bool
-areWords o r = cond (eqb (length o) 4) (cond (eqb (length r) 3) (ltb (getD o 0 0) 9) false) false
+areWords o r = cond (eqb (length o) 4) (cond (eqb (length r) 3) (ltb (getD o 0 0) 10) false) false
 
 unfoldable pub stepCall : List ℕ → List ℕ → List ℕ → List ℕ → Called
 stepCall o r m t = cond (areWords o r) (called (stepped (operationFrom o) (registersFrom r) m t) r) (notCalled r m t)

@@ -35,7 +35,10 @@ fn kind_from(k: u32) -> Kind
     if k == 7 {
         return Kind::Ctx;
     }
-    Kind::AddrCtx
+    if k == 8 {
+        return Kind::AddrCtx;
+    }
+    Kind::Fetch
 }
 
 // A word of a slice, or 0.
@@ -98,7 +101,7 @@ fn are_words(o: &[u32], r: &[u32]) -> bool
 {
     if o.len() == 4 {
         if r.len() == 3 {
-            return word(o, 0) < 9;
+            return word(o, 0) < 10;
         }
         return false;
     }

@@ -62,6 +62,7 @@ pub fn used(k: Kind) -> u32
         Kind::Addr => 1,
         Kind::Ctx => 1,
         Kind::AddrCtx => 2,
+        Kind::Fetch => 1,
     }
 }
 

@@ -10,6 +10,7 @@ use model::Registers;
 use model::Returned;
 use transfer::carry;
 use transfer::carry_flushed;
+use transfer::fetch;
 use transfer::read;
 use transfer::write;
 
@@ -70,6 +71,7 @@ fn carry_out(kind: Kind, o: Operation, r: Registers, m: &mut [u8], t: &mut [u32]
             track::flush_page_in(t, o.b as usize, o.a as usize / 4096); // pageSize
             carry_flushed(Answer::Done(0), r, m, t)
         }
+        Kind::Fetch => fetch(o.a, r, m, t),
     }
 }
 

@@ -11,13 +11,13 @@ use lib.ListN.{length}
 use borrow.Author.Tests.{ltb-true, leb-true}
 use Rattle.model.specs.Limits.{rowSize, contextsMost}
 use Rattle.model.specs.Numbers.{Result, ok, fault, refused, shown, refusalNumber}
-use Rattle.model.specs.reference.Rules.{Translation, found, failed, inMemory, physical, rightOf, allows, permissionFault, State, fresh, aligned, touched, translated, access, setRegisters, effect, outcome, carriedOut, Scope, own, global, flushes, trackWord, notedIn, wordAfter, contexts, hasRow, conditions, startConditions, Given, refuses16}
+use Rattle.model.specs.reference.Rules.{Translation, found, failed, inMemory, physical, rightOf, permits, permissionFault, State, fresh, aligned, accessSize, touched, translated, access, setRegisters, effect, outcome, carriedOut, Scope, own, global, flushes, trackWord, notedIn, wordAfter, contexts, hasRow, conditions, startConditions, Given, refuses16}
 use Rattle.model.specs.reference.Runs.{isRefused}
 use Rattle.model.specs.step.Track.{lastRow, noteTrack, flushAll}
 use Rattle.model.specs.step.Checks.{checks, startChecks, firstFailing, contextFits, registersFit, sizeFits, rootFits, lengthsFit, memoryFits, trackFits}
-use Rattle.model.specs.step.Machine.{After, sizeOf, accessAt, readFrom, writeTo, readStep, writeStep, afterChecks, startedBy, operate, stepped, started, startRegisters, zeroRegisters, turnedBack}
+use Rattle.model.specs.step.Machine.{After, sizeOf, accessAt, readFrom, writeTo, readStep, writeStep, fetchStep, afterChecks, startedBy, operate, stepped, started, startRegisters, zeroRegisters, turnedBack}
 use Rattle.model.specs.Demands.{Call, conditionsOf, after, before, visible, Leaves, Total, Faithful}
-use Rattle.model.specs.Types.{Registers, Operation, Kind, Read, Write, Root, Asid, Mode, All, Addr, Ctx, AddrCtx, Refusal, StalePage, Size, Check, Pass, Refuse, Access, Stale, Fails, Physical}
+use Rattle.model.specs.Types.{Registers, Operation, Kind, Read, Write, Root, Asid, Mode, All, Addr, Ctx, AddrCtx, Fetch, Refusal, StalePage, Size, Four, Purpose, ToRead, ToWrite, ToFetch, Check, Pass, Refuse, Access, Stale, Fails, Physical}
 use Rattle.model.proofs.BoolLaws.{push, and-both}
 use Rattle.model.proofs.Checks.{asConditions, staleCondition, checks-same, start-checks-same}
 use Rattle.model.proofs.Track.{flushOf, noted-word, noted-length, flushed-word, flushed-length, word-after}
@@ -112,34 +112,35 @@ pub not-refused : (x : Result) (r : ℕ) → isRefused x ≡ false → x ≡ ref
 unfolding isRefused
 not-refused x r a p = true≢false (sym (ap isRefused p) ∙ a)
 
-touched-answers : (writes : Bool) (at size v : ℕ) (s : State) → isRefused (touched writes at size v s .0) ≡ false
+touched-answers : (x : Purpose) (at size v : ℕ) (s : State) → isRefused (touched x at size v s .0) ≡ false
 unfolding isRefused touched
-touched-answers true at size v s = refl
-touched-answers false at size v s = refl
+touched-answers ToRead at size v s = refl
+touched-answers ToWrite at size v s = refl
+touched-answers ToFetch at size v s = refl
 
-translated-answers : (writes : Bool) (a size v : ℕ) (s : State) (x : Translation) → isRefused (translated writes a size v s x .0) ≡ false
+translated-answers : (x : Purpose) (a size v : ℕ) (s : State) (y : Translation) → isRefused (translated x a size v s y .0) ≡ false
 unfolding isRefused translated
-translated-answers writes a size v s (failed n) = refl
-translated-answers writes a size v s (found e) =
-    go (allows (rightOf (e .ap) (s .registers .mode)) writes) (inMemory (s .memory) (physical e a) size)
+translated-answers x a size v s (failed n) = refl
+translated-answers x a size v s (found e) =
+    go (permits x (rightOf (e .ap) (s .registers .mode)) (e .xn)) (inMemory (s .memory) (physical e a) size)
   where
-    go : (p q : Bool) → isRefused (cond p (cond q (touched writes (physical e a) size v s) (fault 0x8, s)) (fault (permissionFault e), s) .0) ≡ false
-    go true true = touched-answers writes (physical e a) size v s
+    go : (p q : Bool) → isRefused (cond p (cond q (touched x (physical e a) size v s) (fault 0x8, s)) (fault (permissionFault e), s) .0) ≡ false
+    go true true = touched-answers x (physical e a) size v s
     go true false = refl
     go false q = refl
 
-access-answers : (writes : Bool) (o : Operation) (s : State) (f : ℕ → Translation) → isRefused (access writes o s f .0) ≡ false
+access-answers : (x : Purpose) (o : Operation) (s : State) (f : ℕ → Translation) → isRefused (access x o s f .0) ≡ false
 unfolding isRefused access
-access-answers writes o s f = go (aligned (o .a) (o .b))
+access-answers x o s f = go (aligned (o .a) (accessSize o))
   where
-    go : (b : Bool) → isRefused (cond b (translated writes (o .a) (o .b) (o .c) s (f (o .a))) (fault 0x1, s) .0) ≡ false
-    go true = translated-answers writes (o .a) (o .b) (o .c) s (f (o .a))
+    go : (b : Bool) → isRefused (cond b (translated x (o .a) (accessSize o) (o .c) s (f (o .a))) (fault 0x1, s) .0) ≡ false
+    go true = translated-answers x (o .a) (accessSize o) (o .c) s (f (o .a))
     go false = refl
 
 effect-answers : (k : Kind) (o : Operation) (s : State) (f : ℕ → Translation) → isRefused (effect k o s f .0) ≡ false
 unfolding isRefused effect setRegisters
-effect-answers Read o s f = access-answers false o s f
-effect-answers Write o s f = access-answers true o s f
+effect-answers Read o s f = access-answers ToRead o s f
+effect-answers Write o s f = access-answers ToWrite o s f
 effect-answers Root o s f = refl
 effect-answers Asid o s f = refl
 effect-answers Mode o s f = refl
@@ -147,6 +148,7 @@ effect-answers All o s f = refl
 effect-answers Addr o s f = refl
 effect-answers Ctx o s f = refl
 effect-answers AddrCtx o s f = refl
+effect-answers Fetch o s f = access-answers ToFetch o s f
 
 pub never-refused : (o : Operation) (s : State) (r : ℕ) → carriedOut o s .0 ≡ refused r → ⊥
 unfolding carriedOut
@@ -203,9 +205,9 @@ write-ended (Fails f) size v r m t = done (unfold isRefused in refl) refl
 write-ended (Physical p) size v r m t = done (unfold isRefused in refl) refl
 
 operate-ended : (k : Kind) (o : Operation) (r : Registers) (m t : List ℕ) → Ended (operate k o r m t) r m t (flushOf k o t)
-unfolding operate flushOf readStep writeStep isRefused
-operate-ended Read o r m t = read-ended (accessAt r m t false (sizeOf (o .b)) (o .a)) (sizeOf (o .b)) r m t
-operate-ended Write o r m t = write-ended (accessAt r m t true (sizeOf (o .b)) (o .a)) (sizeOf (o .b)) (o .c) r m t
+unfolding operate flushOf readStep writeStep fetchStep isRefused
+operate-ended Read o r m t = read-ended (accessAt r m t ToRead (sizeOf (o .b)) (o .a)) (sizeOf (o .b)) r m t
+operate-ended Write o r m t = write-ended (accessAt r m t ToWrite (sizeOf (o .b)) (o .a)) (sizeOf (o .b)) (o .c) r m t
 operate-ended Root o r m t = done refl refl
 operate-ended Asid o r m t = done refl refl
 operate-ended Mode o r m t = done refl refl
@@ -213,6 +215,7 @@ operate-ended All o r m t = done refl refl
 operate-ended Addr o r m t = done refl refl
 operate-ended Ctx o r m t = done refl refl
 operate-ended AddrCtx o r m t = done refl refl
+operate-ended Fetch o r m t = read-ended (accessAt r m t ToFetch Four (o .a)) Four r m t
 
 -- the flush of a call
 abbrev flushedBy : Call → List ℕ
@@ -253,9 +256,9 @@ write-context (Physical p) size v r m t = refl
 
 context-left : (k : Kind) (o : Operation) (r : Registers) (m t : List ℕ) → r .context < contexts t → contextFits k (o .a) (o .b) (contexts t) ≡ true →
     operate k o r m t .registers .context < contexts t
-unfolding operate contextFits readStep writeStep
-context-left Read o r m t h f = rw (read-context (accessAt r m t false (sizeOf (o .b)) (o .a)) (sizeOf (o .b)) r m t) h
-context-left Write o r m t h f = rw (write-context (accessAt r m t true (sizeOf (o .b)) (o .a)) (sizeOf (o .b)) (o .c) r m t) h
+unfolding operate contextFits readStep writeStep fetchStep
+context-left Read o r m t h f = rw (read-context (accessAt r m t ToRead (sizeOf (o .b)) (o .a)) (sizeOf (o .b)) r m t) h
+context-left Write o r m t h f = rw (write-context (accessAt r m t ToWrite (sizeOf (o .b)) (o .a)) (sizeOf (o .b)) (o .c) r m t) h
 context-left Root o r m t h f = h
 context-left Asid o r m t h f = ltb-true (o .a) (contexts t) f
 context-left Mode o r m t h f = h
@@ -263,6 +266,7 @@ context-left All o r m t h f = h
 context-left Addr o r m t h f = h
 context-left Ctx o r m t h f = h
 context-left AddrCtx o r m t h f = h
+context-left Fetch o r m t h f = rw (read-context (accessAt r m t ToFetch Four (o .a)) Four r m t) h
 
 -- what the checks passed say of contexts
 pub record Passed (x : Call) : Type 0 where

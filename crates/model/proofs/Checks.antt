@@ -13,7 +13,7 @@ use Rattle.model.specs.reference.Rules.{among, contexts, refuses7, refus
 use Rattle.model.specs.step.Track.{lastRow}
 use Rattle.model.specs.step.Checks.{memoryFits, trackFits, lengthsFit, rootFits, registersFit, isSize, sizeFits, addressFits, fitsSize, valueFits, newRootFits, contextFits, modeFits, mayAsk, checks, startChecks}
 use Rattle.model.specs.Demands.{Call, conditionsOf}
-use Rattle.model.specs.Types.{Registers, Operation, Kind, Read, Write, Root, Asid, Mode, All, Addr, Ctx, AddrCtx, Refusal}
+use Rattle.model.specs.Types.{Registers, Operation, Kind, Read, Write, Root, Asid, Mode, All, Addr, Ctx, AddrCtx, Fetch, Refusal}
 use Rattle.model.proofs.BoolLaws.{same-test, and-both, not-ltb, not-leb, or-false, three-and, three-or, not-three, not-two}
 
 -- an operation with these parts
@@ -35,6 +35,7 @@ size-same All a b c = refl
 size-same Addr a b c = refl
 size-same Ctx a b c = refl
 size-same AddrCtx a b c = refl
+size-same Fetch a b c = refl
 
 -- 8
 pub address-same : (k : Kind) (a b c : ℕ) → not (addressFits k a) ≡ refuses8 (op k a b c)
@@ -48,6 +49,7 @@ address-same All a b c = refl
 address-same Addr a b c = not-ltb a addressLimit
 address-same Ctx a b c = refl
 address-same AddrCtx a b c = not-ltb a addressLimit
+address-same Fetch a b c = not-ltb a addressLimit
 
 -- 9
 value-test : (b c : ℕ) → not (fitsSize b c) ≡ (eqb b 1 && leb 0x100 c || eqb b 2 && leb 0x10000 c || eqb b 4 && leb 0x100000000 c)
@@ -78,6 +80,7 @@ value-same All a b c = refl
 value-same Addr a b c = refl
 value-same Ctx a b c = refl
 value-same AddrCtx a b c = refl
+value-same Fetch a b c = refl
 
 -- 10
 pub root-same : (k : Kind) (a b c : ℕ) → not (newRootFits k a) ≡ refuses10 (op k a b c)
@@ -91,6 +94,7 @@ root-same All a b c = refl
 root-same Addr a b c = refl
 root-same Ctx a b c = refl
 root-same AddrCtx a b c = refl
+root-same Fetch a b c = refl
 
 -- 11
 pub context-same : (k : Kind) (a b c n : ℕ) → not (contextFits k a b n) ≡ refuses11 (op k a b c) n
@@ -104,6 +108,7 @@ context-same All a b c n = refl
 context-same Addr a b c n = refl
 context-same Ctx a b c n = not-ltb a n ∙ sym (or-false (leb n a))
 context-same AddrCtx a b c n = not-ltb b n
+context-same Fetch a b c n = refl
 
 -- 12
 pub mode-same : (k : Kind) (a b c : ℕ) → not (modeFits k a) ≡ refuses12 (op k a b c)
@@ -117,6 +122,7 @@ mode-same All a b c = refl
 mode-same Addr a b c = refl
 mode-same Ctx a b c = refl
 mode-same AddrCtx a b c = refl
+mode-same Fetch a b c = refl
 
 -- 13
 track-test : (n : ℕ) → trackFits n ≡ (eqb n (rowSize * (lastRow n + 1)) && leb 1 (lastRow n) && leb (lastRow n) contextsMost)
@@ -171,6 +177,7 @@ asking-same All a b c r = refl
 asking-same Addr a b c r = refl
 asking-same Ctx a b c r = refl
 asking-same AddrCtx a b c r = refl
+asking-same Fetch a b c r = refl
 
 -- checks as conditions: the number of the refusal, and that the check fails
 unfoldable pub asConditions : List (Bool × Refusal) → List (ℕ × Bool)

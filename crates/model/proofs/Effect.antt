@@ -9,15 +9,15 @@ use lib.ListN.{length, getD}
 use borrow.Author.Tests.{eqb-true, eqb-false, eq-eqb, ne-eqb}
 use Rattle.model.specs.Limits.{pageSize, rowSize}
 use Rattle.model.specs.Numbers.{Result, ok, fault, refused, shown, faultNumber}
-use Rattle.model.specs.reference.Rules.{Translation, found, failed, inMemory, value, stored, walk, physical, rightOf, allows, permissionFault, State, Scope, own, global, aligned, touched, translated, access, setRegisters, effect, outcome, carriedOut, trackWord, contexts, rowOf, stale, kept, differs, among, refuses16}
+use Rattle.model.specs.reference.Rules.{Translation, found, failed, inMemory, value, stored, walk, physical, rightOf, permits, permissionFault, State, Scope, own, global, aligned, accessSize, touched, translated, access, setRegisters, effect, outcome, carriedOut, trackWord, contexts, rowOf, stale, kept, differs, among, refuses16}
 use Rattle.model.specs.step.Memory.{bytesOf, within, loadAt, writtenAt}
 use Rattle.model.specs.step.Walk.{walkPage}
 use Rattle.model.specs.step.Rights.{permitted}
 use Rattle.model.specs.step.Track.{noteTrack, lastRow, wordAt, staleWord, stalePage}
 use Rattle.model.specs.step.Checks.{isSize, sizeFits}
-use Rattle.model.specs.step.Machine.{After, sizeOf, valueOf, physicalOf, permissionFaultOf, granted, decided, accessAt, readFrom, writeTo, readStep, writeStep, operate}
+use Rattle.model.specs.step.Machine.{After, sizeOf, valueOf, physicalOf, permissionFaultOf, granted, decided, accessAt, readFrom, writeTo, readStep, writeStep, fetchStep, operate}
 use Rattle.model.specs.Demands.{visible}
-use Rattle.model.specs.Types.{Registers, Operation, Kind, Read, Write, Root, Asid, Mode, All, Addr, Ctx, AddrCtx, Entry, Alignment, SectionPermission, PagePermission, AccessOutside, Size, One, Two, Four, Outcome, Mapped, Failed, Access, Stale, Fails, Physical}
+use Rattle.model.specs.Types.{Registers, Operation, Kind, Read, Write, Root, Asid, Mode, All, Addr, Ctx, AddrCtx, Fetch, Entry, Alignment, SectionPermission, PagePermission, AccessOutside, Size, One, Two, Four, Purpose, ToRead, ToWrite, ToFetch, Outcome, Mapped, Failed, Access, Stale, Fails, Physical}
 use Rattle.model.proofs.BoolLaws.{push}
 use Rattle.model.proofs.Memory.{within-same, number-same, stored-same}
 use Rattle.model.proofs.Walk.{translation, walk-same}
@@ -29,23 +29,31 @@ abbrev pub state : Registers → List ℕ → State
 state r m = record { memory = m; registers = r }
 
 -- what an access comes to, as the reference sees it
-taken : Bool → Size → ℕ → State → Access → Result × State
-taken writes size v s Stale = (refused 16, s)
-taken writes size v s (Fails f) = (fault (faultNumber f), s)
-taken false size v s (Physical p) = (ok (valueOf (loadAt size (s .memory) p)), s)
-taken true size v s (Physical p) = (ok 0, record { memory = writtenAt size (s .memory) p v; registers = s .registers })
+taken : Purpose → Size → ℕ → State → Access → Result × State
+taken x size v s Stale = (refused 16, s)
+taken x size v s (Fails f) = (fault (faultNumber f), s)
+taken ToRead size v s (Physical p) = (ok (valueOf (loadAt size (s .memory) p)), s)
+taken ToWrite size v s (Physical p) = (ok 0, record { memory = writtenAt size (s .memory) p v; registers = s .registers })
+taken ToFetch size v s (Physical p) = (ok (valueOf (loadAt size (s .memory) p)), s)
 
-read-taken : (x : Access) (size : Size) (v : ℕ) (r : Registers) (m t : List ℕ) → visible (readFrom x size r m t) ≡ taken false size v (state r m) x
+read-taken : (x : Access) (size : Size) (v : ℕ) (r : Registers) (m t : List ℕ) → visible (readFrom x size r m t) ≡ taken ToRead size v (state r m) x
 unfolding taken
 read-taken Stale size v r m t = refl
 read-taken (Fails f) size v r m t = refl
 read-taken (Physical p) size v r m t = refl
 
-write-taken : (x : Access) (size : Size) (v : ℕ) (r : Registers) (m t : List ℕ) → visible (writeTo x size v r m t) ≡ taken true size v (state r m) x
+write-taken : (x : Access) (size : Size) (v : ℕ) (r : Registers) (m t : List ℕ) → visible (writeTo x size v r m t) ≡ taken ToWrite size v (state r m) x
 unfolding taken
 write-taken Stale size v r m t = refl
 write-taken (Fails f) size v r m t = refl
 write-taken (Physical p) size v r m t = refl
+
+-- what is fetched is what is read
+fetch-taken : (x : Access) (size : Size) (v : ℕ) (s : State) → taken ToRead size v s x ≡ taken ToFetch size v s x
+unfolding taken
+fetch-taken Stale size v s = refl
+fetch-taken (Fails f) size v s = refl
+fetch-taken (Physical p) size v s = refl
 
 -- bytes in memory are read and written as the reference does
 number-read : (size : Size) (m : List ℕ) (p : ℕ) → within size m p ≡ true → valueOf (loadAt size m p) ≡ value m p (bytesOf size)
@@ -56,11 +64,12 @@ number-written : (size : Size) (m : List ℕ) (p v : ℕ) → within size m p �
 unfolding writtenAt
 number-written size m p v h = rw h (stored-same size m p v)
 
-bytes-taken : (writes : Bool) (size : Size) (v : ℕ) (r : Registers) (m : List ℕ) (p : ℕ) → within size m p ≡ true →
-    taken writes size v (state r m) (Physical p) ≡ touched writes p (bytesOf size) v (state r m)
+bytes-taken : (x : Purpose) (size : Size) (v : ℕ) (r : Registers) (m : List ℕ) (p : ℕ) → within size m p ≡ true →
+    taken x size v (state r m) (Physical p) ≡ touched x p (bytesOf size) v (state r m)
 unfolding taken touched
-bytes-taken true size v r m p h = λ i. (ok 0, state r (number-written size m p v h i))
-bytes-taken false size v r m p h = λ i. (ok (number-read size m p h i), state r m)
+bytes-taken ToRead size v r m p h = λ i. (ok (number-read size m p h i), state r m)
+bytes-taken ToWrite size v r m p h = λ i. (ok 0, state r (number-written size m p v h i))
+bytes-taken ToFetch size v r m p h = λ i. (ok (number-read size m p h i), state r m)
 
 -- a choice whose first value matters only where its test holds
 where-true : {A : Type 0} (b : Bool) (x y z : A) → (b ≡ true → x ≡ y) → cond b x z ≡ cond b y z
@@ -73,32 +82,33 @@ permission-same : (e : Entry) → faultNumber (permissionFaultOf e) ≡ permissi
 unfolding permissionFaultOf permissionFault
 permission-same e = push faultNumber (eqb (e .section) 1) SectionPermission PagePermission
 
-granted-same : (x : Outcome) (writes : Bool) (size : Size) (a v : ℕ) (r : Registers) (m : List ℕ) →
-    taken writes size v (state r m) (granted x (r .mode) writes size a m) ≡ translated writes a (bytesOf size) v (state r m) (translation x)
+granted-same : (y : Outcome) (x : Purpose) (size : Size) (a v : ℕ) (r : Registers) (m : List ℕ) →
+    taken x size v (state r m) (granted y (r .mode) x size a m) ≡ translated x a (bytesOf size) v (state r m) (translation y)
 unfolding taken translated physical
-granted-same (Failed f) writes size a v r m = refl
-granted-same (Mapped e) writes size a v r m =
+granted-same (Failed f) x size a v r m = refl
+granted-same (Mapped e) x size a v r m =
+    let allowed : Bool = permitted (e .ap) (r .mode) x (e .xn) in
     let denied : Result × State = (fault (permissionFault e), state r m) in
     let outside : Result × State = (fault 0x8, state r m) in
-    let bytes : Result × State = touched writes (physicalOf e a) (bytesOf size) v (state r m) in
-    push (taken writes size v (state r m)) (permitted (e .ap) (r .mode) writes)
+    let bytes : Result × State = touched x (physicalOf e a) (bytesOf size) v (state r m) in
+    push (taken x size v (state r m)) allowed
     (cond (within size m (physicalOf e a)) (Physical (physicalOf e a)) (Fails AccessOutside)) (Fails (permissionFaultOf e))
-    ∙ ap₂ (λ x n. cond (permitted (e .ap) (r .mode) writes) x (fault n, state r m))
-    (push (taken writes size v (state r m)) (within size m (physicalOf e a)) (Physical (physicalOf e a)) (Fails AccessOutside)
-    ∙ where-true (within size m (physicalOf e a)) _ bytes outside (bytes-taken writes size v r m (physicalOf e a))
+    ∙ ap₂ (λ y n. cond allowed y (fault n, state r m))
+    (push (taken x size v (state r m)) (within size m (physicalOf e a)) (Physical (physicalOf e a)) (Fails AccessOutside)
+    ∙ where-true (within size m (physicalOf e a)) _ bytes outside (bytes-taken x size v r m (physicalOf e a))
     ∙ ap (λ b. cond b bytes outside) (within-same size m (physicalOf e a)))
     (permission-same e)
-    ∙ ap (λ b. cond b (cond (inMemory m (physicalOf e a) (bytesOf size)) bytes outside) denied) (rights-same (e .ap) (r .mode) writes)
+    ∙ ap (λ b. cond b (cond (inMemory m (physicalOf e a) (bytesOf size)) bytes outside) denied) (rights-same (e .ap) (r .mode) x (e .xn))
 
-decided-same : (x : Outcome) (b : Bool) (writes : Bool) (size : Size) (a v : ℕ) (r : Registers) (m : List ℕ) →
-    taken writes size v (state r m) (decided x b (r .mode) writes size a m)
-    ≡ cond (aligned a (bytesOf size)) (cond b (refused 16, state r m) (translated writes a (bytesOf size) v (state r m) (translation x))) (fault 0x1, state r m)
+decided-same : (y : Outcome) (b : Bool) (x : Purpose) (size : Size) (a v : ℕ) (r : Registers) (m : List ℕ) →
+    taken x size v (state r m) (decided y b (r .mode) x size a m)
+    ≡ cond (aligned a (bytesOf size)) (cond b (refused 16, state r m) (translated x a (bytesOf size) v (state r m) (translation y))) (fault 0x1, state r m)
 unfolding decided aligned taken
-decided-same x b writes size a v r m =
-    push (taken writes size v (state r m)) (eqb (a % bytesOf size) 0) _ (Fails Alignment)
-    ∙ ap (λ y. cond (eqb (a % bytesOf size) 0) y (fault 0x1, state r m))
-    (push (taken writes size v (state r m)) b Stale _
-    ∙ ap (λ y. cond b (refused 16, state r m) y) (granted-same x writes size a v r m))
+decided-same y b x size a v r m =
+    push (taken x size v (state r m)) (eqb (a % bytesOf size) 0) _ (Fails Alignment)
+    ∙ ap (λ z. cond (eqb (a % bytesOf size) 0) z (fault 0x1, state r m))
+    (push (taken x size v (state r m)) b Stale _
+    ∙ ap (λ z. cond b (refused 16, state r m) z) (granted-same y x size a v r m))
 
 -- the stale test of a word of a row
 stale-in : (u : Scope) (m t : List ℕ) (root n a : ℕ) → n ≡ rowOf t u →
@@ -126,13 +136,13 @@ stale-at r m t a =
     either-stale false y = refl
 
 -- an access in a state: fault 0x1, then 16, then what its translation gives
-access-same : (writes : Bool) (size : Size) (a v : ℕ) (r : Registers) (m t : List ℕ) →
-    taken writes size v (state r m) (accessAt r m t writes size a)
-    ≡ cond (aligned a (bytesOf size)) (cond (stale t (r .context) (a / pageSize) (walk m (r .root) a)) (refused 16, state r m) (translated writes a (bytesOf size) v (state r m) (walk m (r .root) a))) (fault 0x1, state r m)
+access-same : (x : Purpose) (size : Size) (a v : ℕ) (r : Registers) (m t : List ℕ) →
+    taken x size v (state r m) (accessAt r m t x size a)
+    ≡ cond (aligned a (bytesOf size)) (cond (stale t (r .context) (a / pageSize) (walk m (r .root) a)) (refused 16, state r m) (translated x a (bytesOf size) v (state r m) (walk m (r .root) a))) (fault 0x1, state r m)
 unfolding accessAt
-access-same writes size a v r m t =
-    decided-same (walkPage m (r .root) (a / pageSize)) (stalePage t (r .context) (a / pageSize) (walkPage m (r .root) (a / pageSize))) writes size a v r m
-    ∙ ap₂ (λ b x. cond (aligned a (bytesOf size)) (cond b (refused 16, state r m) (translated writes a (bytesOf size) v (state r m) x)) (fault 0x1, state r m)) (stale-at r m t a) (walk-same m (r .root) a)
+access-same x size a v r m t =
+    decided-same (walkPage m (r .root) (a / pageSize)) (stalePage t (r .context) (a / pageSize) (walkPage m (r .root) (a / pageSize))) x size a v r m
+    ∙ ap₂ (λ b y. cond (aligned a (bytesOf size)) (cond b (refused 16, state r m) (translated x a (bytesOf size) v (state r m) y)) (fault 0x1, state r m)) (stale-at r m t a) (walk-same m (r .root) a)
 
 -- the size that a field names
 size-bytes : (b : ℕ) → isSize b ≡ true → bytesOf (sizeOf b) ≡ b
@@ -149,22 +159,26 @@ nested : {A : Type 0} (x y : Bool) (p q r : A) → cond x (cond y p q) r ≡ con
 nested true y p q r = refl
 nested false y p q r = refl
 
-access-whole : (writes : Bool) (o : Operation) (r : Registers) (m t : List ℕ) → isSize (o .b) ≡ true →
-    taken writes (sizeOf (o .b)) (o .c) (state r m) (accessAt r m t writes (sizeOf (o .b)) (o .a))
-    ≡ cond (aligned (o .a) (o .b) && stale t (r .context) (o .a / pageSize) (walk m (r .root) (o .a))) (refused 16, state r m) (access writes o (state r m) (outcome (state r m)))
+access-whole : (x : Purpose) (size : Size) (o : Operation) (r : Registers) (m t : List ℕ) → bytesOf size ≡ accessSize o →
+    taken x size (o .c) (state r m) (accessAt r m t x size (o .a))
+    ≡ cond (aligned (o .a) (accessSize o) && stale t (r .context) (o .a / pageSize) (walk m (r .root) (o .a))) (refused 16, state r m) (access x o (state r m) (outcome (state r m)))
 unfolding access outcome
-access-whole writes o r m t h =
-    access-same writes (sizeOf (o .b)) (o .a) (o .c) r m t
-    ∙ rw (size-bytes (o .b) h) (nested (aligned (o .a) (o .b)) (stale t (r .context) (o .a / pageSize) (walk m (r .root) (o .a))) (refused 16, state r m) _ (fault 0x1, state r m))
+access-whole x size o r m t e =
+    access-same x size (o .a) (o .c) r m t
+    ∙ rw e (nested (aligned (o .a) (accessSize o)) (stale t (r .context) (o .a / pageSize) (walk m (r .root) (o .a))) (refused 16, state r m) _ (fault 0x1, state r m))
 
 -- ── Every operation ──
 
 by-kind : (k : Kind) (a b c : ℕ) (r : Registers) (m t : List ℕ) → sizeFits k b ≡ true →
     visible (operate k (record { kind = k; a = a; b = b; c = c }) r m t)
     ≡ cond (refuses16 (record { kind = k; a = a; b = b; c = c }) r m t) (refused 16, state r m) (carriedOut (record { kind = k; a = a; b = b; c = c }) (state r m))
-unfolding operate carriedOut effect setRegisters refuses16 among sizeFits readStep writeStep
-by-kind Read a b c r m t h = read-taken (accessAt r m t false (sizeOf b) a) (sizeOf b) c r m t ∙ access-whole false (record { kind = Read; a = a; b = b; c = c }) r m t h
-by-kind Write a b c r m t h = write-taken (accessAt r m t true (sizeOf b) a) (sizeOf b) c r m t ∙ access-whole true (record { kind = Write; a = a; b = b; c = c }) r m t h
+unfolding operate carriedOut effect setRegisters refuses16 among accessSize sizeFits readStep writeStep fetchStep
+by-kind Read a b c r m t h =
+    read-taken (accessAt r m t ToRead (sizeOf b) a) (sizeOf b) c r m t
+    ∙ access-whole ToRead (sizeOf b) (record { kind = Read; a = a; b = b; c = c }) r m t (size-bytes b h)
+by-kind Write a b c r m t h =
+    write-taken (accessAt r m t ToWrite (sizeOf b) a) (sizeOf b) c r m t
+    ∙ access-whole ToWrite (sizeOf b) (record { kind = Write; a = a; b = b; c = c }) r m t (size-bytes b h)
 by-kind Root a b c r m t h = refl
 by-kind Asid a b c r m t h = refl
 by-kind Mode a b c r m t h = refl
@@ -172,6 +186,10 @@ by-kind All a b c r m t h = refl
 by-kind Addr a b c r m t h = refl
 by-kind Ctx a b c r m t h = refl
 by-kind AddrCtx a b c r m t h = refl
+by-kind Fetch a b c r m t h =
+    read-taken (accessAt r m t ToFetch Four a) Four c r m t
+    ∙ fetch-taken (accessAt r m t ToFetch Four a) Four c (state r m)
+    ∙ access-whole ToFetch Four (record { kind = Fetch; a = a; b = b; c = c }) r m t refl
 
 pub operate-same : (o : Operation) (r : Registers) (m t : List ℕ) → sizeFits (o .kind) (o .b) ≡ true →
     visible (operate (o .kind) o r m t) ≡ cond (refuses16 o r m t) (refused 16, state r m) (carriedOut o (state r m))

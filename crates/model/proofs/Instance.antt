@@ -17,10 +17,12 @@ use Rattle.tlb.specs.Tracker.{Tracker, Reply, done, refused as refusedBy}
 use Rattle.tlb.specs.Seen.{Seen, nothing, one, many}
 use Rattle.model.specs.Limits.{pageSize, rowSize}
 use Rattle.model.specs.Numbers.{Result, ok, fault as faulted, refused, shown}
-use Rattle.model.specs.reference.Rules.{Translation, found, failed, walk, State, fresh, aligned, translated, access, effect, outcome, carriedOut, Scope, scopeOf, covers, flushes, Held, Places, heldFor, Move, move, orWalk, flushPlace, among, Kept, empty, one as only, several}
+use Rattle.model.specs.reference.Rules.{Translation, found, failed, walk, State, fresh, aligned, accesses, accessSize, translated, access, effect, outcome, carriedOut, Scope, scopeOf, covers, flushes, Held, Places, heldFor, Move, move, orWalk, flushPlace, among, Kept, empty, one as only, several}
 use Rattle.model.specs.reference.Runs.{isRefused}
 use Rattle.model.specs.step.Machine.{After, stepped, started}
-use Rattle.model.specs.Types.{Operation, Kind, Read, Write, Root, Asid, Mode, All, Addr, Ctx, AddrCtx, Entry}
+use Rattle.model.specs.Invisible.{isAccess, alignedAccess}
+use Rattle.model.specs.Types.{Operation, Kind, Read, Write, Root, Asid, Mode, All, Addr, Ctx, AddrCtx, Fetch, Entry, Purpose, ToRead, ToWrite, ToFetch}
+use Rattle.model.proofs.BoolLaws.{and-both}
 use Rattle.model.proofs.Walk.{translation, walk-same}
 
 -- a translation as the theory has it, and back
@@ -38,7 +40,23 @@ of-as (failed n) = refl
 
 -- the page of an aligned access
 unfoldable pub pageOf : Operation → Option ℕ
-pageOf o = cond (among (o .kind) (Read ∷ Write ∷ []) && aligned (o .a) (o .b)) (some (o .a / pageSize)) none
+pageOf o = cond (among (o .kind) accesses && aligned (o .a) (accessSize o)) (some (o .a / pageSize)) none
+
+-- the accesses of the third demand are those of the rules
+pub access-same : (o : Operation) → isAccess o ≡ among (o .kind) accesses
+unfolding isAccess
+access-same o = refl
+
+-- whether a size is 1, 2 or 4
+abbrev pub knownSize : ℕ → Bool
+knownSize n = eqb n 1 || eqb n 2 || eqb n 4
+
+-- what an aligned access is
+pub access-parts : (o : Operation) → alignedAccess o ≡ true → (among (o .kind) accesses ≡ true) × (aligned (o .a) (accessSize o) ≡ true)
+unfolding alignedAccess
+access-parts o p =
+    let q = and-both (isAccess o && knownSize (accessSize o)) (aligned (o .a) (accessSize o)) p in
+    (sym (access-same o) ∙ and-both (isAccess o) (knownSize (accessSize o)) (q .0) .0, q .1)
 
 -- the present outcome of a page, and an operation carried out with its pages translated by f
 unfoldable pub walkOf : State → ℕ → Walk Entry ℕ
@@ -125,21 +143,21 @@ carry-plain s o =
     ap (effect (o .kind) o s) (fun-ext (λ a. of-as (outcome s (a / pageSize * pageSize)) ∙ outcome-page s a))
 
 -- an operation uses the translation of its own page and no other
-access-page : (writes : Bool) (o : Operation) (s : State) (f h : ℕ → Translation) → (aligned (o .a) (o .b) ≡ true → f (o .a) ≡ h (o .a)) →
-    access writes o s f ≡ access writes o s h
+access-page : (x : Purpose) (o : Operation) (s : State) (f h : ℕ → Translation) → (aligned (o .a) (accessSize o) ≡ true → f (o .a) ≡ h (o .a)) →
+    access x o s f ≡ access x o s h
 unfolding access
-access-page writes o s f h e = go (aligned (o .a) (o .b)) refl
+access-page x o s f h e = go (aligned (o .a) (accessSize o)) refl
   where
-    go : (b : Bool) → aligned (o .a) (o .b) ≡ b →
-        cond b (translated writes (o .a) (o .b) (o .c) s (f (o .a))) (faulted 0x1, s) ≡ cond b (translated writes (o .a) (o .b) (o .c) s (h (o .a))) (faulted 0x1, s)
-    go true p = ap (translated writes (o .a) (o .b) (o .c) s) (e p)
+    go : (b : Bool) → aligned (o .a) (accessSize o) ≡ b →
+        cond b (translated x (o .a) (accessSize o) (o .c) s (f (o .a))) (faulted 0x1, s) ≡ cond b (translated x (o .a) (accessSize o) (o .c) s (h (o .a))) (faulted 0x1, s)
+    go true p = ap (translated x (o .a) (accessSize o) (o .c) s) (e p)
     go false p = refl
 
 pub effect-page : (k : Kind) (o : Operation) (s : State) (f h : ℕ → Translation) →
-    (among k (Read ∷ Write ∷ []) ≡ true → aligned (o .a) (o .b) ≡ true → f (o .a) ≡ h (o .a)) → effect k o s f ≡ effect k o s h
+    (among k accesses ≡ true → aligned (o .a) (accessSize o) ≡ true → f (o .a) ≡ h (o .a)) → effect k o s f ≡ effect k o s h
 unfolding effect among
-effect-page Read o s f h e = access-page false o s f h (e refl)
-effect-page Write o s f h e = access-page true o s f h (e refl)
+effect-page Read o s f h e = access-page ToRead o s f h (e refl)
+effect-page Write o s f h e = access-page ToWrite o s f h (e refl)
 effect-page Root o s f h e = refl
 effect-page Asid o s f h e = refl
 effect-page Mode o s f h e = refl
@@ -147,6 +165,7 @@ effect-page All o s f h e = refl
 effect-page Addr o s f h e = refl
 effect-page Ctx o s f h e = refl
 effect-page AddrCtx o s f h e = refl
+effect-page Fetch o s f h e = access-page ToFetch o s f h (e refl)
 
 pub one-page : (s : State) (o : Operation) (f h : ℕ → Walk Entry ℕ) → ((page : ℕ) → pageOf o ≡ some page → f page ≡ h page) → carryOf s o f ≡ carryOf s o h
 unfolding carryOf pageOf

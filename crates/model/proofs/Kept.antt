@@ -17,13 +17,13 @@ use Rattle.tlb.specs.Words.{addWord, differsFrom, Coding}
 use Rattle.tlb.proofs.WordLaws.{seen-added, stale-iff}
 use Rattle.model.specs.Limits.{pageSize, rowSize, addressLimit}
 use Rattle.model.specs.Numbers.{Result, ok, fault as faulted, refused, shown, refusalNumber}
-use Rattle.model.specs.reference.Rules.{Translation, found, failed, bits, walk, State, fresh, aligned, outcome, carriedOut, Scope, own, global, scopeOf, covers, sameScope, suits, flushes, among, contexts, hasRow, Kept, empty, one as only, several, wordOf, entryOf, kept, same, addTo, noted, differs, notedIn, wordAfter, trackWord, stale, Given, startConditions, refuses16}
+use Rattle.model.specs.reference.Rules.{Translation, found, failed, bits, walk, State, fresh, aligned, accesses, accessSize, outcome, carriedOut, Scope, own, global, scopeOf, covers, sameScope, suits, flushes, among, contexts, hasRow, Kept, empty, one as only, several, wordOf, entryOf, kept, same, addTo, noted, differs, notedIn, wordAfter, trackWord, stale, Given, startConditions, refuses16}
 use Rattle.model.specs.reference.Runs.{isRefused}
 use Rattle.model.specs.step.Walk.{walkPage}
 use Rattle.model.specs.step.Checks.{checks, firstFailing, addressFits}
 use Rattle.model.specs.step.Machine.{After, stepped, started}
 use Rattle.model.specs.Demands.{Call, conditionsOf, after, before, visible, Leaves}
-use Rattle.model.specs.Types.{Registers, Operation, Kind, Read, Write, Root, Asid, Mode, All, Addr, Ctx, AddrCtx, Entry, Refusal, Check, Pass, Refuse, Outcome, Mapped, Failed}
+use Rattle.model.specs.Types.{Registers, Operation, Kind, Read, Write, Root, Asid, Mode, All, Addr, Ctx, AddrCtx, Fetch, Entry, Refusal, Check, Pass, Refuse, Outcome, Mapped, Failed}
 use Rattle.model.proofs.BoolLaws.{and-both}
 use Rattle.model.proofs.Walk.{translation, walk-same}
 use Rattle.model.proofs.Entries.{Fits, same-true, same-false, entry-discrete, decoded}
@@ -436,7 +436,7 @@ differs-seen (only e) (failed n) = refl
 differs-seen several x = refl
 
 -- the page of an access that passed the checks is one of the window
-in-window : (k : Kind) (a : ℕ) → among k (Read ∷ Write ∷ []) ≡ true → addressFits k a ≡ true → a / pageSize < rowSize
+in-window : (k : Kind) (a : ℕ) → among k accesses ≡ true → addressFits k a ≡ true → a / pageSize < rowSize
 unfolding addressFits among
 in-window Read a p q = let h = ltb-true a addressLimit q in omega arith
 in-window Write a p q = let h = ltb-true a addressLimit q in omega arith
@@ -447,17 +447,18 @@ in-window All a p q = absurd (true≢false (sym p))
 in-window Addr a p q = absurd (true≢false (sym p))
 in-window Ctx a p q = absurd (true≢false (sym p))
 in-window AddrCtx a p q = absurd (true≢false (sym p))
+in-window Fetch a p q = let h = ltb-true a addressLimit q in omega arith
 
 record Paged (o : Operation) (k : ℕ) : Type 0 where
-  kinds : among (o .kind) (Read ∷ Write ∷ []) ≡ true
-  lies : aligned (o .a) (o .b) ≡ true
+  kinds : among (o .kind) accesses ≡ true
+  lies : aligned (o .a) (accessSize o) ≡ true
   page-is : o .a / pageSize ≡ k
 
 paged : (o : Operation) (k : ℕ) → pageOf o ≡ some k → Paged o k
 unfolding pageOf
-paged o k p = go (among (o .kind) (Read ∷ Write ∷ [])) (aligned (o .a) (o .b)) refl refl p
+paged o k p = go (among (o .kind) accesses) (aligned (o .a) (accessSize o)) refl refl p
   where
-    go : (x y : Bool) → among (o .kind) (Read ∷ Write ∷ []) ≡ x → aligned (o .a) (o .b) ≡ y → cond (x && y) (some (o .a / pageSize)) none ≡ some k → Paged o k
+    go : (x y : Bool) → among (o .kind) accesses ≡ x → aligned (o .a) (accessSize o) ≡ y → cond (x && y) (some (o .a / pageSize)) none ≡ some k → Paged o k
     go true true e f q = record { kinds = e; lies = f; page-is = let z : o .a / pageSize ≡ k = cc in z }
     go true false e f q = absurd (none-some k q)
     go false y e f q = absurd (none-some k q)

@@ -14,13 +14,13 @@ use Rattle.tlb.specs.Places.{Within, NoClash, Apart}
 use Rattle.tlb.proofs.PlaceLaws.{none-some, some-same, apart-none, apart-dropped, apart-put, apart-flushed}
 use Rattle.model.specs.Limits.{pageSize, rowSize}
 use Rattle.model.specs.Numbers.{Result, fault, shown}
-use Rattle.model.specs.reference.Rules.{Translation, found, failed, State, fresh, aligned, access, translated, effect, outcome, among, Scope, own, global, covers, Held, Places, heldScope, matches, heldFor, meet, clash, anyClash, Move, drop, load, isFree, putIn, move, moves, orWalk, chipOutcome, flushPlace, chipStep}
+use Rattle.model.specs.reference.Rules.{Translation, found, failed, State, fresh, aligned, accesses, accessSize, access, translated, effect, outcome, among, Scope, own, global, covers, Held, Places, heldScope, matches, heldFor, meet, clash, anyClash, Move, drop, load, isFree, putIn, move, moves, orWalk, chipOutcome, flushPlace, chipStep}
 use Rattle.model.specs.reference.Runs.{last, Moment, chipStart, chipNext, chipRun, chipSeen, seen, isRefused, Holds}
 use Rattle.model.specs.step.Machine.{After}
 use Rattle.model.specs.Invisible.{Session, begun, Accepted, checkerRunOf, chipStartOf, chipRunOf, heldBy, loadedNow, atEnd, plainEnd, alignedAccess, checker, Pinned}
-use Rattle.model.specs.Types.{Operation, Kind, Read, Write, Root, Asid, Mode, All, Addr, Ctx, AddrCtx, Entry}
+use Rattle.model.specs.Types.{Operation, Kind, Read, Write, Root, Asid, Mode, All, Addr, Ctx, AddrCtx, Fetch, Entry, Purpose, ToRead, ToWrite, ToFetch}
 use Rattle.model.proofs.BoolLaws.{and-both}
-use Rattle.model.proofs.Instance.{stateOf, outcome-page, effect-page}
+use Rattle.model.proofs.Instance.{stateOf, outcome-page, effect-page, access-parts}
 use Rattle.model.proofs.Chips.{held, flush-leaves, free-none}
 use Rattle.model.proofs.ThirdDemand.{holds-within, within-holds, same-begins, same-chip, plain-end, last-seen}
 
@@ -253,14 +253,14 @@ unfolding chipOutcome
 whole-page s ps a b e =
     ap₂ (λ n x. orWalk (heldFor (s .registers .context) n ps) x) e (sym (outcome-page s a) ∙ ap (λ n. outcome s (n * pageSize)) e ∙ outcome-page s b)
 
-access-fault : (writes : Bool) (o : Operation) (s : State) (f : ℕ → Translation) (n : ℕ) → aligned (o .a) (o .b) ≡ true → f (o .a) ≡ failed n → access writes o s f ≡ (fault n, s)
+access-fault : (x : Purpose) (o : Operation) (s : State) (f : ℕ → Translation) (n : ℕ) → aligned (o .a) (accessSize o) ≡ true → f (o .a) ≡ failed n → access x o s f ≡ (fault n, s)
 unfolding access translated
-access-fault writes o s f n p q = rw (p, q)
+access-fault x o s f n p q = rw (p, q)
 
-kind-fault : (k : Kind) (o : Operation) (s : State) (f : ℕ → Translation) (n : ℕ) → among k (Read ∷ Write ∷ []) ≡ true → aligned (o .a) (o .b) ≡ true → f (o .a) ≡ failed n → effect k o s f ≡ (fault n, s)
+kind-fault : (k : Kind) (o : Operation) (s : State) (f : ℕ → Translation) (n : ℕ) → among k accesses ≡ true → aligned (o .a) (accessSize o) ≡ true → f (o .a) ≡ failed n → effect k o s f ≡ (fault n, s)
 unfolding effect among
-kind-fault Read o s f n k p q = access-fault false o s f n p q
-kind-fault Write o s f n k p q = access-fault true o s f n p q
+kind-fault Read o s f n k p q = access-fault ToRead o s f n p q
+kind-fault Write o s f n k p q = access-fault ToWrite o s f n p q
 kind-fault Root o s f n k p q = absurd (true≢false (sym k))
 kind-fault Asid o s f n k p q = absurd (true≢false (sym k))
 kind-fault Mode o s f n k p q = absurd (true≢false (sym k))
@@ -268,12 +268,10 @@ kind-fault All o s f n k p q = absurd (true≢false (sym k))
 kind-fault Addr o s f n k p q = absurd (true≢false (sym k))
 kind-fault Ctx o s f n k p q = absurd (true≢false (sym k))
 kind-fault AddrCtx o s f n k p q = absurd (true≢false (sym k))
+kind-fault Fetch o s f n k p q = access-fault ToFetch o s f n p q
 
 fault-answers : (o : Operation) (s : State) (f : ℕ → Translation) (n : ℕ) → alignedAccess o ≡ true → f (o .a) ≡ failed n → effect (o .kind) o s f ≡ (fault n, s)
-unfolding alignedAccess
-fault-answers o s f n p q =
-    let r = and-both (among (o .kind) (Read ∷ Write ∷ []) && (eqb (o .b) 1 || eqb (o .b) 2 || eqb (o .b) 4)) (aligned (o .a) (o .b)) p in
-    kind-fault (o .kind) o s f n (and-both (among (o .kind) (Read ∷ Write ∷ [])) (eqb (o .b) 1 || eqb (o .b) 2 || eqb (o .b) 4) (r .0) .0) (r .1) q
+fault-answers o s f n p q = kind-fault (o .kind) o s f n (access-parts o p .0) (access-parts o p .1) q
 
 -- ── Where the runs end ──
 

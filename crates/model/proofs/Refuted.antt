@@ -14,18 +14,18 @@ use Rattle.tlb.specs.Places.{Within}
 use Rattle.tlb.proofs.PlaceLaws.{within-none, within-dropped}
 use Rattle.model.specs.Limits.{pageSize, rowSize}
 use Rattle.model.specs.Numbers.{Result, ok, fault, refused, shown, refusalNumber}
-use Rattle.model.specs.reference.Rules.{Translation, found, failed, State, fresh, aligned, outcome, setRegisters, effect, carriedOut, plainStep, trackWord, Scope, own, global, scopeOf, covers, Held, Places, heldScope, matches, heldFor, anyClash, Move, drop, load, isFree, putIn, move, moves, chipStep, flushPlace, flushes, walk, descriptor, tableWord, globalBy, section, bits, value, inMemory, conditions, startConditions, Given, among, contexts, hasRow, refuses7, refuses8, refuses9, refuses10, refuses11, refuses12, refuses13, refuses14, refuses15, refuses16, stale, kept, differs, noted, notedIn, chipOutcome, orWalk}
+use Rattle.model.specs.reference.Rules.{Translation, found, failed, State, fresh, aligned, accesses, accessSize, outcome, setRegisters, effect, carriedOut, plainStep, trackWord, Scope, own, global, scopeOf, covers, Held, Places, heldScope, matches, heldFor, anyClash, Move, drop, load, isFree, putIn, move, moves, chipStep, flushPlace, flushes, walk, descriptor, tableWord, globalBy, section, bits, value, inMemory, conditions, startConditions, Given, among, contexts, hasRow, refuses7, refuses8, refuses9, refuses10, refuses11, refuses12, refuses13, refuses14, refuses15, refuses16, stale, kept, differs, noted, notedIn, chipOutcome, orWalk}
 use Rattle.model.specs.reference.Runs.{last, Checker, next, checkerRun, isRefused, told, seen, plainRun, Moment, chipStart, chipNext, chipRun, chipSeen, Holds}
 use Rattle.model.specs.step.Checks.{isSize, sizeFits, firstFailing}
 use Rattle.model.specs.step.Machine.{After, started, stepped}
 use Rattle.model.specs.Demands.{Call, after}
-use Rattle.model.specs.Invisible.{Session, begun, Accepted, checkerRunOf, toldOf, chipStartOf, chipRunOf, plainEnd, atEnd, alignedAccess, CouldDiffer, Same, Exactly, Invisible, checker}
+use Rattle.model.specs.Invisible.{Session, begun, Accepted, checkerRunOf, toldOf, chipStartOf, chipRunOf, plainEnd, atEnd, isAccess, alignedAccess, CouldDiffer, Same, Exactly, Invisible, checker}
 use Rattle.model.specs.Wrong.{SameBegins, SamePlain, SameChip, StaleOnlyThen, StaleAlwaysThen, StartsInUserMode, SaysStaleAtOnce, Orderly, Copies, NeverStale, GoesByTrack, AlikeBut, LooksElsewhere}
-use Rattle.model.specs.Types.{Registers, Operation, Kind, Read, Write, Root, Asid, Mode, All as AllSets, Addr, Ctx, AddrCtx, Entry, Pass}
+use Rattle.model.specs.Types.{Registers, Operation, Kind, Read, Write, Root, Asid, Mode, All as AllSets, Addr, Ctx, AddrCtx, Fetch, Entry, Pass}
 use Rattle.model.proofs.BoolLaws.{and-both, three-or}
 use Rattle.model.proofs.Calls.{firstHolding, given-first, none-some, not-refused, exactly, start-exactly, start-words, track-length, start-track-length, size-passed, checksOf, Begun, begun as begunBy, back as turned, done as noted-then}
 use Rattle.model.proofs.Kept.{begins as fresh-begins, passes-checks, given-16}
-use Rattle.model.proofs.Instance.{stateOf, outcome-page}
+use Rattle.model.proofs.Instance.{stateOf, outcome-page, access-same, knownSize}
 use Rattle.model.proofs.Chips.{held, load-brings}
 use Rattle.model.proofs.ThirdDemand.{holds-within}
 
@@ -134,7 +134,7 @@ readPage2 = record { kind = Read; a = 0x2000; b = 4; c = 0 }
 
 -- what a TLB can hold of page 2 while the root is 0x80
 unfoldable pub entry2 : Entry
-entry2 = record { frame = 2; ap = 1; section = 1; global = 0 }
+entry2 = record { frame = 2; ap = 1; section = 1; global = 0; xn = 0 }
 
 unfoldable pub held2 : Held
 held2 = held 0 2 entry2
@@ -211,7 +211,7 @@ unfolding outcome fresh walk descriptor tableWord bits value inMemory image
 page2-unmapped = refl
 
 empty-not-stale : (t : List ℕ) → (trackWord t (own 0) 2 ≡ 0) × (trackWord t global 2 ≡ 0) → refuses16 readPage2 (at 0 .registers) (at 0 .memory) t ≡ false
-unfolding refuses16 among aligned stale kept differs readPage2 at
+unfolding refuses16 among accessSize aligned stale kept differs readPage2 at
 empty-not-stale t e = rw (e .0, e .1)
 
 unfoldable pub track0 : List ℕ
@@ -260,7 +260,7 @@ module _ (m : Checker) (ord : Orderly m) (start : SameBegins m) (plain : SamePla
           ∙ (unfold at in free (x .track) (h .long-track))
 
       go : (r : ℕ) → shown (next m (toRoot a) x .answer) ≡ refused r → Dec (r ≡ 16) → ⊥
-      go r q (yes e) = true≢false (sym (ord .only16 (toRoot a) (x .registers) (x .memory) (x .track) (q ∙ ap refused e)) ∙ (unfold alignedAccess among toRoot in refl))
+      go r q (yes e) = true≢false (sym (ord .only16 (toRoot a) (x .registers) (x .memory) (x .track) (q ∙ ap refused e)) ∙ (unfold alignedAccess isAccess among toRoot in refl))
       go r q (no e) = no-given _ r here (ord .steps (toRoot a) (x .registers) (x .memory) (x .track) r q e)
 
   -- the read, refused by no number but 16
@@ -361,7 +361,7 @@ module _ (m : Checker) (ord : Orderly m) (start : SameBegins m) (plain : SamePla
     unfolding session
     is-stale root os first script l acc e d h =
         let y = subst (Differs root first script) (sym e) d in
-        always (session root os) acc readPage2 (unfold alignedAccess among aligned readPage2 in refl) (only-16 (atEnd m (session root os)) h)
+        always (session root os) acc readPage2 (unfold alignedAccess isAccess among accessSize aligned readPage2 in refl) (only-16 (atEnd m (session root os)) h)
         (record { places = 0; first = first; script = script; held = held2; holds = y .holds; matching = y .matching; other = y .other })
 
     -- as it is after root 0x80 and back
@@ -379,7 +379,7 @@ module _ (m : Checker) (ord : Orderly m) (start : SameBegins m) (plain : SamePla
       operation = readPage2;
       nothingBefore = refl;
       accepted = start-accepted m ord 0 free0 [];
-      access = unfold alignedAccess among aligned readPage2 in refl;
+      access = unfold alignedAccess isAccess among accessSize aligned readPage2 in refl;
       says16 = q;
     }) (only-then m exact)
 
@@ -459,17 +459,18 @@ no-copying m ord inv w =
 
 -- ── The checker of this project is orderly, and so is one made of it that copies the track ──
 
-named-size : (k : Kind) (b : ℕ) → among k (Read ∷ Write ∷ []) ≡ true → sizeFits k b ≡ true → (eqb b 1 || eqb b 2 || eqb b 4) ≡ true
-unfolding among sizeFits
-named-size Read b p s = sym (three-or (eqb b 1) (eqb b 2) (eqb b 4)) ∙ s
-named-size Write b p s = sym (three-or (eqb b 1) (eqb b 2) (eqb b 4)) ∙ s
-named-size Root b p s = absurd (true≢false (sym p))
-named-size Asid b p s = absurd (true≢false (sym p))
-named-size Mode b p s = absurd (true≢false (sym p))
-named-size AllSets b p s = absurd (true≢false (sym p))
-named-size Addr b p s = absurd (true≢false (sym p))
-named-size Ctx b p s = absurd (true≢false (sym p))
-named-size AddrCtx b p s = absurd (true≢false (sym p))
+named-size : (k : Kind) (a b c : ℕ) → among k accesses ≡ true → sizeFits k b ≡ true → knownSize (accessSize (record { kind = k; a = a; b = b; c = c })) ≡ true
+unfolding among accessSize sizeFits
+named-size Read a b c p s = sym (three-or (eqb b 1) (eqb b 2) (eqb b 4)) ∙ s
+named-size Write a b c p s = sym (three-or (eqb b 1) (eqb b 2) (eqb b 4)) ∙ s
+named-size Root a b c p s = absurd (true≢false (sym p))
+named-size Asid a b c p s = absurd (true≢false (sym p))
+named-size Mode a b c p s = absurd (true≢false (sym p))
+named-size AllSets a b c p s = absurd (true≢false (sym p))
+named-size Addr a b c p s = absurd (true≢false (sym p))
+named-size Ctx a b c p s = absurd (true≢false (sym p))
+named-size AddrCtx a b c p s = absurd (true≢false (sym p))
+named-size Fetch a b c p s = refl
 
 passes-16 : (x : Call) → shown (after x .answer) ≡ refused 16 → firstFailing (checksOf x) ≡ Pass
 passes-16 x q = passes-checks x (λ r e. same r (sym q ∙ e))
@@ -482,8 +483,9 @@ unfolding refuses16 alignedAccess
 aligned-16 x q =
     let pass = passes-16 x q in
     let all = and-both _ (stale (x .track) (x .registers .context) (x .operation .a / pageSize) (walk (x .memory) (x .registers .root) (x .operation .a))) (given-16 x pass .0 q) in
-    let kinds = and-both (among (x .operation .kind) (Read ∷ Write ∷ [])) (aligned (x .operation .a) (x .operation .b)) (all .0) in
-    ap₂ _&&_ (ap₂ _&&_ (kinds .0) (named-size (x .operation .kind) (x .operation .b) (kinds .0) (size-passed x pass))) (kinds .1)
+    let o : Operation = x .operation in
+    let kinds = and-both (among (o .kind) accesses) (aligned (o .a) (accessSize o)) (all .0) in
+    ap₂ _&&_ (ap₂ _&&_ (access-same o ∙ kinds .0) (named-size (o .kind) (o .a) (o .b) (o .c) (kinds .0) (size-passed x pass))) (kinds .1)
 
 abbrev pub call : Operation → Registers → List ℕ → List ℕ → Call
 call o g i t = record { operation = o; registers = g; memory = i; track = t }

@@ -1,13 +1,14 @@
 -- The step's permissions are the reference's table of rights.
 use Prim.Native.Nat.{ℕ, _≤_}
 use mathlib.Core.Path.{_≡_, refl, sym, ap, _∙_}
-use mathlib.Core.Bool.{Bool, true, false, cond}
+use mathlib.Core.Bool.{Bool, true, false, cond, _&&_}
 use native.Mathlib.Omega.{arith}
 use lib.Dec.{eqb, leb}
 use lib.ListN.{getD, List·getD-eq-default}
 use borrow.Author.Tests.{le-leb, lt-leb, ne-eqb}
-use Rattle.model.specs.reference.Rules.{Right, nothing, reading, writing, rights, rightOf, allows}
+use Rattle.model.specs.reference.Rules.{Right, nothing, reading, writing, rights, rightOf, mayRead, mayWrite, permits}
 use Rattle.model.specs.step.Rights.{kernelRights, userRights, rightsOf, permitted}
+use Rattle.model.specs.Types.{Purpose, ToRead, ToWrite, ToFetch}
 use Rattle.model.proofs.BoolLaws.{push, allBelow, by-table}
 
 -- a right as the step counts it
@@ -50,15 +51,26 @@ rights-level : (ap mode : ℕ) → rightsOf ap mode ≡ level (rightOf ap mode)
 unfolding rightsOf rightOf
 rights-level ap mode = rw (kernel-same ap, user-same ap) (sym (push level (eqb mode 0) (kernelColumn ap) (userColumn ap)))
 
-by-level : (x : Right) (writes : Bool) → cond writes (leb 2 (level x)) (leb 1 (level x)) ≡ allows x writes
-unfolding allows
-by-level nothing true = refl
-by-level nothing false = refl
-by-level reading true = refl
-by-level reading false = refl
-by-level writing true = refl
-by-level writing false = refl
+may-read : (x : Right) → leb 1 (level x) ≡ mayRead x
+unfolding mayRead
+may-read nothing = refl
+may-read reading = refl
+may-read writing = refl
 
-pub rights-same : (ap mode : ℕ) (writes : Bool) → permitted ap mode writes ≡ allows (rightOf ap mode) writes
-unfolding permitted
-rights-same ap mode writes = rw (rights-level ap mode) (by-level (rightOf ap mode) writes)
+may-write : (x : Right) → leb 2 (level x) ≡ mayWrite x
+unfolding mayWrite
+may-write nothing = refl
+may-write reading = refl
+may-write writing = refl
+
+may-fetch : (x : Right) (xn : ℕ) → cond (leb 1 (level x)) (eqb xn 0) false ≡ (mayRead x && eqb xn 0)
+unfolding mayRead
+may-fetch nothing xn = refl
+may-fetch reading xn = refl
+may-fetch writing xn = refl
+
+pub rights-same : (ap mode : ℕ) (purpose : Purpose) (xn : ℕ) → permitted ap mode purpose xn ≡ permits purpose (rightOf ap mode) xn
+unfolding permitted permits
+rights-same ap mode ToRead xn = rw (rights-level ap mode) (may-read (rightOf ap mode))
+rights-same ap mode ToWrite xn = rw (rights-level ap mode) (may-write (rightOf ap mode))
+rights-same ap mode ToFetch xn = rw (rights-level ap mode) (may-fetch (rightOf ap mode) xn)

@@ -23,7 +23,7 @@ use Rattle.model.specs.step.Machine.{After, stepped, started}
 use Rattle.model.specs.Invisible.{Session, begun, Accepted, checkerRunOf, toldOf, plainRunOf, chipStartOf, chipRunOf, Same, atEnd, plainEnd, alignedAccess, CouldDiffer, Exactly, Invisible, checker}
 use Rattle.model.specs.Types.{Operation, Kind, Read, Write, Entry}
 use Rattle.model.proofs.BoolLaws.{and-both}
-use Rattle.model.proofs.Instance.{asWalk, ofWalk, of-as, pageOf, walkOf, carryOf, tables, replyOf, stateOf, callOf, checker as theory, tlbOf, outcome-page, carry-plain}
+use Rattle.model.proofs.Instance.{asWalk, ofWalk, of-as, pageOf, walkOf, carryOf, tables, replyOf, stateOf, callOf, checker as theory, tlbOf, outcome-page, carry-plain, access-parts}
 use Rattle.model.proofs.Kept.{begins, carries, keeps}
 use Rattle.model.proofs.Chips.{held, HoldsIn, tlb-laws}
 
@@ -190,11 +190,8 @@ plain-end x acc =
 
 -- an aligned access has a page
 has-page : (o : Operation) → alignedAccess o ≡ true → pageOf o ≡ some (o .a / pageSize)
-unfolding alignedAccess pageOf
-has-page o p =
-    let q = and-both (among (o .kind) (Read ∷ Write ∷ []) && (eqb (o .b) 1 || eqb (o .b) 2 || eqb (o .b) 4)) (aligned (o .a) (o .b)) p in
-    let r = and-both (among (o .kind) (Read ∷ Write ∷ [])) (eqb (o .b) 1 || eqb (o .b) 2 || eqb (o .b) 4) (q .0) in
-    rw (r .0, q .1)
+unfolding pageOf
+has-page o p = rw (access-parts o p .0, access-parts o p .1)
 
 as-found : (x : Translation) (e : Entry) → asWalk x ≡ entry e → x ≡ found e
 as-found (found y) e q = ap found (let z : y ≡ e = cc in z)

@@ -30,20 +30,20 @@ global-same x h = go (eqb x 0) refl
     go false e = let q = eqb-false x 0 e in omega arith
 
 -- the entries of the three kinds of mapping
-with-global : (e : Entry) (g : ℕ) → e .global ≡ g → e ≡ record { frame = e .frame; ap = e .ap; section = e .section; global = g }
-with-global e g q = λ i. record { frame = e .frame; ap = e .ap; section = e .section; global = q i }
+with-bits : (e : Entry) (g x : ℕ) → e .global ≡ g → e .xn ≡ x → e ≡ record { frame = e .frame; ap = e .ap; section = e .section; global = g; xn = x }
+with-bits e g x p q = λ i. record { frame = e .frame; ap = e .ap; section = e .section; global = p i; xn = q i }
 
 section-same : (a w : ℕ) → sectionEntry w (a / pageSize) ≡ section a w
 unfolding section bits
-section-same a w = with-global (sectionEntry w (a / pageSize)) _ (global-same (w / 131072 % 2) (omega arith))
+section-same a w = with-bits (sectionEntry w (a / pageSize)) _ (bits 4 4 w) (global-same (w / 131072 % 2) (omega arith)) refl
 
 large-same : (a w : ℕ) → largeEntry w (a / pageSize) ≡ largePage a w
 unfolding largePage bits
-large-same a w = with-global (largeEntry w (a / pageSize)) _ (global-same (w / 2048 % 2) (omega arith))
+large-same a w = with-bits (largeEntry w (a / pageSize)) _ (bits 15 15 w) (global-same (w / 2048 % 2) (omega arith)) refl
 
 small-same : (w : ℕ) → smallEntry w ≡ smallPage w
 unfolding smallPage bits
-small-same w = with-global (smallEntry w) _ (global-same (w / 2048 % 2) (omega arith))
+small-same w = with-bits (smallEntry w) _ (bits 0 0 w) (global-same (w / 2048 % 2) (omega arith)) (omega arith)
 
 kind-same : (w : ℕ) → kindOf w ≡ bits 1 0 w
 unfolding bits

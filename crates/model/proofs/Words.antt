@@ -24,13 +24,13 @@ InRange (Failed f) = Unit {0}
 -- ── Each entry that a walk finds is in range ──
 
 section-fits : (w page : ℕ) → Fits (sectionEntry w page)
-section-fits w page = (omega arith, (omega arith, (omega arith, omega arith)))
+section-fits w page = (omega arith, (omega arith, (omega arith, (omega arith, omega arith))))
 
 large-fits : (w page : ℕ) → Fits (largeEntry w page)
-large-fits w page = (omega arith, (omega arith, (omega arith, omega arith)))
+large-fits w page = (omega arith, (omega arith, (omega arith, (omega arith, omega arith))))
 
 small-fits : (w : ℕ) → Fits (smallEntry w)
-small-fits w = (omega arith, (omega arith, (omega arith, omega arith)))
+small-fits w = (omega arith, (omega arith, (omega arith, (omega arith, omega arith))))
 
 second-range : (w page : ℕ) → InRange (secondOf w page)
 unfolding secondOf
@@ -117,22 +117,26 @@ in-no-row global c e p = absurd (true≢false p)
 -- ── Words of a row ──
 
 -- the fields of a word, and what lies below them
-fields : (w : ℕ) → w < wordLimit → w ≡ w / 4096 % 1048576 * 4096 + w / 512 % 8 * 512 + w / 256 % 2 * 256 + w / 128 % 2 * 128 + w % 128
+fields : (w : ℕ) → w < wordLimit → w ≡ w / 4096 % 1048576 * 4096 + w / 512 % 8 * 512 + w / 256 % 2 * 256 + w / 128 % 2 * 128 + w / 64 % 2 * 64 + w % 64
 fields w h =
     let frames : w / 4096 % 1048576 ≡ w / 4096 = omega arith in
     let aps : w / 512 ≡ w / 4096 * 8 + w / 512 % 8 = omega arith in
     let sections : w / 256 ≡ w / 512 * 2 + w / 256 % 2 = omega arith in
     let globals : w / 128 ≡ w / 256 * 2 + w / 128 % 2 = omega arith in
-    let rest : w ≡ w / 128 * 128 + w % 128 = omega arith in
-    sum (w / 4096 % 1048576) (w / 4096) (w / 512) (w / 512 % 8) (w / 256) (w / 256 % 2) (w / 128) (w / 128 % 2) w (w % 128) frames aps sections globals rest
+    let xns : w / 64 ≡ w / 128 * 2 + w / 64 % 2 = omega arith in
+    let rest : w ≡ w / 64 * 64 + w % 64 = omega arith in
+    sum (w / 4096 % 1048576) (w / 4096) (w / 512) (w / 512 % 8) (w / 256) (w / 256 % 2) (w / 128) (w / 128 % 2) (w / 64) (w / 64 % 2) w (w % 64)
+    frames aps sections globals xns rest
   where
-    sum : (f a b c d e g h w r : ℕ) → f ≡ a → b ≡ a * 8 + c → d ≡ b * 2 + e → g ≡ d * 2 + h → w ≡ g * 128 + r → w ≡ f * 4096 + c * 512 + e * 256 + h * 128 + r
-    sum f a b c d e g h w r p q s t u = omega arith
+    sum : (f a b c d e g h k l w r : ℕ) → f ≡ a → b ≡ a * 8 + c → d ≡ b * 2 + e → g ≡ d * 2 + h → k ≡ g * 2 + l → w ≡ k * 64 + r →
+        w ≡ f * 4096 + c * 512 + e * 256 + h * 128 + l * 64 + r
+    sum f a b c d e g h k l w r p q s t u v = omega arith
 
 -- a word is that of its entry exactly if it has the low bits of an entry's word
-low-bits : (w : ℕ) → w < wordLimit → eqb (w % 128) 2 ≡ eqb w (wordOf (entryOf w))
+low-bits : (w : ℕ) → w < wordLimit → eqb (w % 64) 2 ≡ eqb w (wordOf (entryOf w))
 unfolding wordOf entryOf bits
-low-bits w h = by (w / 4096 % 1048576 * 4096 + w / 512 % 8 * 512 + w / 256 % 2 * 256 + w / 128 % 2 * 128) (w % 128) (fields w h)
+low-bits w h =
+    by (w / 4096 % 1048576 * 4096 + w / 512 % 8 * 512 + w / 256 % 2 * 256 + w / 128 % 2 * 128 + w / 64 % 2 * 64) (w % 64) (fields w h)
   where
     by : (x r : ℕ) → w ≡ x + r → eqb r 2 ≡ eqb w (x + 2)
     by x r e = eqb-same r 2 w (x + 2) (λ q. omega arith) (λ q. omega arith)
@@ -153,9 +157,9 @@ single-same u w = go (ltb w wordLimit) refl ∙ ap (_&&_ (eqb w (wordOf (entryOf
     too-large h q = let z : wordOf (entryOf w) < wordLimit = unfold wordOf entryOf bits in omega arith in omega arith
 
     go : (b : Bool) → ltb w wordLimit ≡ b →
-        cond b (cond (eqb (w % 128) 2) (eqb (w / 128 % 2) (rowKind u)) false) false ≡ (eqb w (wordOf (entryOf w)) && eqb (entryOf w .global) (rowKind u))
+        cond b (cond (eqb (w % 64) 2) (eqb (w / 128 % 2) (rowKind u)) false) false ≡ (eqb w (wordOf (entryOf w)) && eqb (entryOf w .global) (rowKind u))
     go true e =
-        both (eqb (w % 128) 2) (eqb (w / 128 % 2) (rowKind u))
+        both (eqb (w % 64) 2) (eqb (w / 128 % 2) (rowKind u))
         ∙ ap₂ (λ x n. x && eqb n (rowKind u)) (low-bits w (ltb-true w wordLimit e)) (sym global-bit)
     go false e =
         ap (λ x. x && eqb (entryOf w .global) (rowKind u)) (sym (ne-eqb w (wordOf (entryOf w)) (too-large (ltb-false w wordLimit e))))

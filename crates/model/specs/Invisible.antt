@@ -9,10 +9,10 @@ use lib.Dec.{eqb}
 use lib.ListN.{length, getD}
 use Rattle.model.specs.Limits.{pageSize, rowSize}
 use Rattle.model.specs.Numbers.{Result, ok, fault, refused, shown}
-use Rattle.model.specs.reference.Rules.{Translation, found, failed, State, fresh, effect, outcome, aligned, among, Scope, global, Held, Places, heldScope, matches, Move, drop, load, move, chipOutcome}
+use Rattle.model.specs.reference.Rules.{Translation, found, failed, State, fresh, effect, outcome, aligned, among, accessSize, Scope, global, Held, Places, heldScope, matches, Move, drop, load, move, chipOutcome}
 use Rattle.model.specs.reference.Runs.{last, Checker, next, checkerRun, isRefused, seen, told, plainRun, Moment, chipStart, chipRun, chipSeen, Holds}
 use Rattle.model.specs.step.Machine.{After, started, stepped}
-use Rattle.model.specs.Types.{Operation, Read, Write, Entry}
+use Rattle.model.specs.Types.{Operation, Read, Write, Fetch, Entry}
 
 -- A start with any image, any track and any root, and a list of operations of any kind with any fields.
 pub record Session : Type 0 where
@@ -25,10 +25,14 @@ pub record Session : Type 0 where
 abbrev pub chipStartOf : Session → ℕ → List Move → Moment
 chipStartOf x n first = chipStart n (fresh (x .image) (x .root)) first
 
+-- a read, a write or a fetch
+unfoldable pub isAccess : Operation → Bool
+isAccess o = among (o .kind) (Read ∷ Write ∷ Fetch ∷ [])
+
 -- an access whose size is 1, 2 or 4 and divides its address
 unfoldable pub alignedAccess : Operation → Bool
 alignedAccess o =
-    among (o .kind) (Read ∷ Write ∷ []) && (eqb (o .b) 1 || eqb (o .b) 2 || eqb (o .b) 4) && aligned (o .a) (o .b)
+    isAccess o && (eqb (accessSize o) 1 || eqb (accessSize o) 2 || eqb (accessSize o) 4) && aligned (o .a) (accessSize o)
 
 module _ (m : Checker) where
   -- the checker's start, and that it is accepted

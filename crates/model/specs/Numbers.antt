@@ -1,7 +1,7 @@
 -- The numbers that the rules give to kinds, faults and refusals, and what an answer shows.
 use Prim.Native.Nat.{ℕ}
 use mathlib.Core.Option.{Option, none, some}
-use Rattle.model.specs.Types.{Kind, Read, Write, Root, Asid, Mode, All, Addr, Ctx, AddrCtx, Fault, Alignment, FirstUnmapped, SecondUnmapped, SectionPermission, PagePermission, FirstOutside, SecondOutside, AccessOutside, Refusal, WrongSize, WrongAddress, WrongValue, WrongRoot, WrongContext, WrongMode, WrongLengths, WrongRegisters, UserMode, StalePage, Answer, Done, Faulted, Refused, Check, Pass, Refuse}
+use Rattle.model.specs.Types.{Kind, Read, Write, Root, Asid, Mode, All, Addr, Ctx, AddrCtx, Fetch, Fault, Alignment, FirstUnmapped, SecondUnmapped, SectionPermission, PagePermission, FirstOutside, SecondOutside, AccessOutside, Refusal, WrongSize, WrongAddress, WrongValue, WrongRoot, WrongContext, WrongMode, WrongLengths, WrongRegisters, UserMode, StalePage, Answer, Done, Faulted, Refused, Check, Pass, Refuse}
 
 -- the place of a kind in the rules' list of operations
 abbrev pub kindNumber : Kind → ℕ
@@ -14,6 +14,7 @@ kindNumber All = 5
 kindNumber Addr = 6
 kindNumber Ctx = 7
 kindNumber AddrCtx = 8
+kindNumber Fetch = 9
 
 -- the short-descriptor status codes
 abbrev pub faultNumber : Fault → ℕ

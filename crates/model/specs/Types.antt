@@ -1,7 +1,7 @@
 -- The types of src/lib.rt and their constructors, under one roof.
 pub use Rattle.model.specs.declared.Registers.{Registers}
 pub use Rattle.model.specs.declared.Kind.{Kind}
-pub use Rattle.model.specs.declared.Kind.the-variants.{Read, Write, Root, Asid, Mode, All, Addr, Ctx, AddrCtx}
+pub use Rattle.model.specs.declared.Kind.the-variants.{Read, Write, Root, Asid, Mode, All, Addr, Ctx, AddrCtx, Fetch}
 pub use Rattle.model.specs.declared.Operation.{Operation}
 pub use Rattle.model.specs.declared.Entry.{Entry}
 pub use Rattle.model.specs.declared.Fault.{Fault}
@@ -13,6 +13,8 @@ pub use Rattle.model.specs.declared.Answer.the-variants.{Done, Faulted, 
 pub use Rattle.model.specs.declared.Returned.{Returned}
 pub use Rattle.model.specs.declared.Size.{Size}
 pub use Rattle.model.specs.declared.Size.the-variants.{One, Two, Four}
+pub use Rattle.model.specs.declared.Purpose.{Purpose}
+pub use Rattle.model.specs.declared.Purpose.the-variants.{ToRead, ToWrite, ToFetch}
 pub use Rattle.model.specs.declared.Loaded.{Loaded}
 pub use Rattle.model.specs.declared.Loaded.the-variants.{Value, Outside}
 pub use Rattle.model.specs.declared.FirstLevel.{FirstLevel}

@@ -19,6 +19,7 @@ pub enum Kind {
     Addr,
     Ctx,
     AddrCtx,
+    Fetch,
 }
 
 // An operation with its three fields.
@@ -29,13 +30,14 @@ pub struct Operation {
     pub c: u32,
 }
 
-// What a page maps to: the number of its 4 KiB frame, its access permissions AP[2:0], 1 where a section maps it, else 0, and 1
-// where it is global, so that every context may use it, else 0.
+// What a page maps to: the number of its 4 KiB frame, its access permissions AP[2:0], 1 where a section maps it, else 0, 1 where
+// it is global, so that every context may use it, else 0, and its XN bit: 1 where nothing may be fetched through it, else 0.
 pub struct Entry {
     pub frame: u32,
     pub ap: u32,
     pub section: u32,
     pub global: u32,
+    pub xn: u32,
 }
 
 // Why an operation carried out gave no value.
@@ -82,6 +84,13 @@ pub enum Size {
     One,
     Two,
     Four,
+}
+
+// What an access is for: to read, to write, or to fetch an instruction.
+pub enum Purpose {
+    ToRead,
+    ToWrite,
+    ToFetch,
 }
 
 // What reading a number in memory finds.

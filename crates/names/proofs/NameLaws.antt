@@ -7,7 +7,7 @@ use native.Mathlib.Omega.{arith}
 use lib.ListN.{length}
 use Rattle.text.specs.Split.{same}
 use Rattle.model.specs.declared.Kind.{Kind}
-use Rattle.model.specs.declared.Kind.the-variants.{Read, Write, Root, Asid, Mode, All, Addr, Ctx, AddrCtx}
+use Rattle.model.specs.declared.Kind.the-variants.{Read, Write, Root, Asid, Mode, All, Addr, Ctx, AddrCtx, Fetch}
 use Rattle.names.specs.declared.Named.the-variants.{Known}
 use Rattle.names.specs.Names.{name, namedIn}
 
@@ -31,6 +31,7 @@ name-most All = omega arith
 name-most Addr = omega arith
 name-most Ctx = omega arith
 name-most AddrCtx = omega arith
+name-most Fetch = omega arith
 
 pub name-some : (k : Kind) → 3 ≤ length (name k)
 name-some Read = omega arith
@@ -42,3 +43,4 @@ name-some All = omega arith
 name-some Addr = omega arith
 name-some Ctx = omega arith
 name-some AddrCtx = omega arith
+name-some Fetch = omega arith

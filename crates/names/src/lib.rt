@@ -43,6 +43,9 @@ pub fn name_of(s: &[u8]) -> Named
     if text::same(s, b"addrctx") {
         return Named::Known(Kind::AddrCtx);
     }
+    if text::same(s, b"fetch") {
+        return Named::Known(Kind::Fetch);
+    }
     Named::Nothing
 }
 
@@ -71,5 +74,6 @@ fn copy_name(out: &mut [u8], at: usize, k: Kind) -> usize
         Kind::Addr => text::put(out, at, b"addr"),
         Kind::Ctx => text::put(out, at, b"ctx"),
         Kind::AddrCtx => text::put(out, at, b"addrctx"),
+        Kind::Fetch => text::put(out, at, b"fetch"),
     }
 }

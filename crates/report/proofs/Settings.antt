@@ -1,8 +1,8 @@
--- Cases computed on the report's definition, as one table: the program's settings (root 0, eight contexts, the image's limit), and each
--- refusal of a list.
+-- Cases computed on the report's definition, as one table of two parts: the program's settings (root 0, eight contexts, the image's limit),
+-- and each refusal of a list.
 use Prim.Native.Nat.{ℕ}
 use Prim.Native.String.{String}
-use mathlib.Core.Path.{_≡_, refl}
+use mathlib.Core.Path.{_≡_, refl, ap₂}
 use mathlib.Core.Bool.{Bool, true, false, cond, _&&_}
 use mathlib.Core.List.{List, [], _∷_, _++_}
 use lib.ListN.{replicate, take}
@@ -11,6 +11,7 @@ use Rattle.text.specs.Hex.{digit, glyph, digits, number, lean, spelled, valueOf
 use Rattle.text.specs.Put.{over}
 use Rattle.text.specs.Quoted.{quotedFrom, quoted}
 use Rattle.model.specs.reference.Runs.{last, checkerRun}
+use Rattle.model.proofs.BoolLaws.{and-both}
 use Rattle.model.proofs.CaseTools.{put, imageA, next}
 use Rattle.names.specs.Names.{namedIn}
 use Rattle.listing.specs.Line.{spare, zeros, opOf, judged, valuesOf, fieldA, fieldB, fieldC, fieldsOf, lineOf}
@@ -41,9 +42,17 @@ abbrev allSame : List (List ℕ × List ℕ) → Bool
 allSame [] = true
 allSame (x ∷ xs) = same (x .0) (x .1) && allSame xs
 
-pub settings : List (List ℕ × List ℕ)
+-- a table of two parts is computed part by part
+all-parts : (xs ys : List (List ℕ × List ℕ)) → allSame xs ≡ true → allSame ys ≡ true → allSame (xs ++ ys) ≡ true
+all-parts [] ys p q = q
+all-parts (x ∷ xs) ys p q =
+    let b = and-both (same (x .0) (x .1)) (allSame xs) p in
+    ap₂ _&&_ (b .0) (all-parts xs ys (b .1) q)
+
+-- Images and lists that are read to their end, and refused starts.
+runs : List (List ℕ × List ℕ)
 unfolding next quotedFrom quoted
-settings =
+runs =
     -- the image and the list of the rules: the level-one table stands at root 0
     (
       reportText 32768 imageA (quoted
@@ -51,10 +60,12 @@ settings =
       quoted
           "line,op,answer,value\n2,read,ok,12345678\n3,write,ok,0\n4,read,refused,10\n5,addr,ok,0\n6,read,ok,11223344\n7,read,fault,1\n8,read,fault,7\n9,mode,ok,0\na,read,fault,f\nb,all,refused,f\n",
     )
-    -- a global page changed to another global mapping: `ctx` leaves it stale, `addrctx` of any context frees it
+    -- a global page changed to another global mapping: `ctx` leaves it stale, `addrctx` of any context frees it; and fetches from it
     ∷ (
-      reportText 4096 globalSection (quoted "op,a,b,c\nwrite,0,4,402\nctx,0,0,0\nread,0,4,0\naddrctx,0,7,0\nread,0,4,0\nread,1000,4,0\n"),
-      quoted "line,op,answer,value\n2,write,ok,0\n3,ctx,ok,0\n4,read,refused,10\n5,addrctx,ok,0\n6,read,ok,402\n7,read,refused,10\n",
+      reportText 4096 globalSection (quoted
+          "op,a,b,c\nwrite,0,4,402\nctx,0,0,0\nread,0,4,0\naddrctx,0,7,0\nread,0,4,0\nread,1000,4,0\nfetch,0,0,0\nfetch,1000,0,0\nfetch,2,0,0\nfetch,400000,0,0\n"),
+      quoted
+          "line,op,answer,value\n2,write,ok,0\n3,ctx,ok,0\n4,read,refused,10\n5,addrctx,ok,0\n6,read,ok,402\n7,read,refused,10\n8,fetch,ok,402\n9,fetch,refused,10\na,fetch,fault,1\nb,fetch,refused,8\n",
     )
     -- eight contexts
     ∷ (reportOfList (quoted "op,a,b,c\nasid,7,0,0\nasid,8,0,0\n"), quoted "line,op,answer,value\n2,asid,ok,0\n3,asid,refused,b\n")
@@ -63,8 +74,14 @@ settings =
     ∷ (reportText 32769 (replicate 32769 0) (quoted "op,a,b,c\n"), quoted "line,op,answer,value\n0,start,refused,d\n")
     ∷ (reportText 36864 (replicate 36864 0) (quoted "op,a,b,c\n"), quoted "line,op,answer,value\n0,start,refused,d\n")
     ∷ (reportText 0 [] (quoted "op,a,b,c\n"), quoted "line,op,answer,value\n0,start,refused,d\n")
+    ∷ []
+
+-- Lists that are turned back.
+refusals : List (List ℕ × List ℕ)
+unfolding next quotedFrom quoted
+refusals =
     -- 1: a list of 65,537 bytes, and not one of 65,536
-    ∷ (reportOfList (replicate 65537 10), quoted "line,op,answer,value\n1,-,refused,1\n")
+    (reportOfList (replicate 65537 10), quoted "line,op,answer,value\n1,-,refused,1\n")
     ∷ (reportOfList (replicate 65536 10), quoted "line,op,answer,value\n1,-,refused,2\n")
     -- 2: the empty list, and names without their newline
     ∷ (reportOfList [], quoted "line,op,answer,value\n1,-,refused,2\n")
@@ -85,13 +102,28 @@ settings =
     -- 5: no such operation, and no name at all
     ∷ turnedBack "Read,1000,4,0" "5"
     ∷ turnedBack ",0,0,0" "5"
+    ∷ turnedBack "fetches,0,0,0" "5"
     -- 6: an unused field, the first, the second or the third
     ∷ turnedBack "all,1,0,0" "6"
     ∷ turnedBack "root,80,1,0" "6"
     ∷ turnedBack "addrctx,1000,0,1" "6"
+    ∷ turnedBack "fetch,1000,4,0" "6"
+    ∷ turnedBack "fetch,1000,0,1" "6"
     ∷ []
 
-pub settings-hold : allSame settings ≡ true
-unfolding settings next quotedFrom quoted same has until past digit glyph digits number lean spelled valueOf spell hexOf over last checkerRun
+runs-hold : allSame runs ≡ true
+unfolding runs next quotedFrom quoted same has until past digit glyph digits number lean spelled valueOf spell hexOf over last checkerRun
     namedIn spare zeros opOf judged valuesOf fieldA fieldB fieldC fieldsOf lineOf tooLong hasNames readLines readList reportLine answerLines answerText bodyOf reportOf
-settings-hold = refl
+runs-hold = refl
+
+refusals-hold : allSame refusals ≡ true
+unfolding refusals next quotedFrom quoted same has until past digit glyph digits number lean spelled valueOf spell hexOf over last checkerRun
+    namedIn spare zeros opOf judged valuesOf fieldA fieldB fieldC fieldsOf lineOf tooLong hasNames readLines readList reportLine answerLines answerText bodyOf reportOf
+refusals-hold = refl
+
+pub settings : List (List ℕ × List ℕ)
+settings = runs ++ refusals
+
+pub settings-hold : allSame settings ≡ true
+unfolding settings
+settings-hold = all-parts runs refusals runs-hold refusals-hold

@@ -1,12 +1,13 @@
-// Reads and writes carried out, and noting, which follows whatever is carried out.
+// Reads, writes and fetches carried out, and noting, which follows whatever is carried out.
 ghost use mathlib.Core.Path.{_≡_};
-ghost use Rattle.model.specs.step.Machine.{Gives, carried, valueOf, readFrom, writeTo, readStep, writeStep};
+ghost use Rattle.model.specs.step.Machine.{Gives, carried, valueOf, readFrom, writeTo, readStep, writeStep, fetchStep};
 ghost use Rattle.model.specs.step.Memory.{writtenAt};
 ghost use Rattle.model.specs.step.Track.{noteTrack};
 use access::access_at;
 use model::Access;
 use model::Answer;
 use model::Loaded;
+use model::Purpose;
 use model::Refusal;
 use model::Registers;
 use model::Returned;
@@ -60,7 +61,7 @@ fn store_and_note(
     noting::note(m, root, t, context as usize);
 }
 
-// A read, by what its access comes to.
+// A read or a fetch, by what its access comes to.
 fn read_from(x: Access, size: Size, r: Registers, m: &[u8], t: &mut [u32]) -> Returned
     ensures { λ y. ⌜ Gives (readFrom x size r (now (m .entry)) (now (t .entry))) y (now (m .entry)) (now (t .exit)) ⌝ }
 {
@@ -101,7 +102,7 @@ fn write_to(x: Access, size: Size, v: u32, r: Registers, m: &mut [u8], t: &mut [
 pub fn read(a: u32, size: Size, r: Registers, m: &[u8], t: &mut [u32]) -> Returned
     ensures { λ y. ⌜ Gives (readStep a size r (now (m .entry)) (now (t .entry))) y (now (m .entry)) (now (t .exit)) ⌝ }
 {
-    let x = access_at(r, m, t, false, size, a);
+    let x = access_at(r, m, t, Purpose::ToRead, size, a);
     read_from(x, size, r, m, t)
 }
 
@@ -109,6 +110,14 @@ pub fn read(a: u32, size: Size, r: Registers, m: &[u8], t: &mut [u32]) -> Return
 pub fn write(a: u32, size: Size, v: u32, r: Registers, m: &mut [u8], t: &mut [u32]) -> Returned
     ensures { λ y. ⌜ Gives (writeStep a size v r (now (m .entry)) (now (t .entry))) y (now (m .exit)) (now (t .exit)) ⌝ }
 {
-    let x = access_at(r, m, t, true, size, a);
+    let x = access_at(r, m, t, Purpose::ToWrite, size, a);
     write_to(x, size, v, r, m, t)
+}
+
+// A fetch whose address has passed the checks: four bytes.
+pub fn fetch(a: u32, r: Registers, m: &[u8], t: &mut [u32]) -> Returned
+    ensures { λ y. ⌜ Gives (fetchStep a r (now (m .entry)) (now (t .entry))) y (now (m .entry)) (now (t .exit)) ⌝ }
+{
+    let x = access_at(r, m, t, Purpose::ToFetch, Size::Four, a);
+    read_from(x, Size::Four, r, m, t)
 }

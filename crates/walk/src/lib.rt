@@ -70,7 +70,12 @@ pub fn walk(m: &[u8], root: u32, page: usize) -> Outcome
 pub fn entry_word(e: Entry) -> u32
     ensures { λ r. ⌜ r ≡ entryWord e ⌝ }
 {
-    e.frame % 1048576 * 4096 + e.ap % 8 * 512 + e.section % 2 * 256 + e.global % 2 * 128 + 2
+    e.frame % 1048576 * 4096
+        + e.ap % 8 * 512
+        + e.section % 2 * 256
+        + e.global % 2 * 128
+        + e.xn % 2 * 64
+        + 2
 }
 
 // What a walk finds, as a number: an entry's track word, or 0x100000000 plus a fault.

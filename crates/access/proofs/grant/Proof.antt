@@ -39,20 +39,20 @@ inside-requires c κs = search needs
 returns : tie.Need-returns
 returns c = let f = c .before .before in let p = f .before in let k = p .before .before .before in let a = k .before .before .before .args in
     ap Fails (f .permission-fault .ensures)
-    ∙ grant-denied (a .o) (a .mode) (a .writes) (a .size) (a .a) (now (a .m)) _ (k .o2 .given .1) (sym (p .permitted .ensures) ∙ not-true _ (c .if1 .taken))
+    ∙ grant-denied (a .o) (a .mode) (a .purpose) (a .size) (a .a) (now (a .m)) _ (k .o2 .given .1) (sym (p .permitted .ensures) ∙ not-true _ (c .if1 .taken))
 
 returns-2 : tie.Need-returns-2
 returns-2 c = let i = c .before .before in let p = i .before .before in let k = p .before .before .before in let a = k .before .before .before .args in
-    grant-outside (a .o) (a .mode) (a .writes) (a .size) (a .a) (now (a .m)) _ (k .o2 .given .1) (sym (p .permitted .ensures) ∙ not-false _ (c .before .if1 .left))
+    grant-outside (a .o) (a .mode) (a .purpose) (a .size) (a .a) (now (a .m)) _ (k .o2 .given .1) (sym (p .permitted .ensures) ∙ not-false _ (c .before .if1 .left))
     (sym (i .inside .ensures) ∙ not-true _ (c .if2 .taken))
 
 returns-3 : tie.Need-returns-3
 returns-3 c = let k = c .before in let a = k .before .before .before .args in
-    grant-failed (a .o) (a .mode) (a .writes) (a .size) (a .a) (now (a .m)) _ (k .o .given .1)
+    grant-failed (a .o) (a .mode) (a .purpose) (a .size) (a .a) (now (a .m)) _ (k .o .given .1)
 
 returns-4 : tie.Need-returns-4
 returns-4 c = let i = c .before .before in let p = i .before .before in let k = p .before .before .before in let a = k .before .before .before .args in
-    grant-physical (a .o) (a .mode) (a .writes) (a .size) (a .a) (now (a .m)) _ (k .o2 .given .1) (sym (p .permitted .ensures) ∙ not-false _ (c .before .if1 .left))
+    grant-physical (a .o) (a .mode) (a .purpose) (a .size) (a .a) (now (a .m)) _ (k .o2 .given .1) (sym (p .permitted .ensures) ∙ not-false _ (c .before .if1 .left))
     (sym (i .inside .ensures) ∙ not-false _ (c .if2 .left))
 
 pub grant-spec : {M : Type 1} → statement M

@@ -22,6 +22,9 @@ enum-told-3 c = search needs
 enum-told-4 : tie.Need-enum-told-4
 enum-told-4 c = search needs
 
+enum-told-5 : tie.Need-enum-told-5
+enum-told-5 c = search needs
+
 returns : tie.Need-returns
 unfolding addressFits
 returns c = let a = c .before .before .args in
@@ -44,8 +47,13 @@ returns-4 c = let a = c .before .before .args in
 
 returns-5 : tie.Need-returns-5
 unfolding addressFits
-returns-5 c = let a = c .before .args in
-    others (2 ∷ 3 ∷ 4 ∷ 5 ∷ 7 ∷ []) (λ (k : Kind). true ≡ addressFits k (a .a)) (tt, (tt, (refl, (refl, (refl, (refl, (tt, (refl, tt)))))))) (a .kind) (c .match .keys5)
+returns-5 c = let a = c .before .before .args in
+    sym (ap (λ (k : Kind). addressFits k (a .a)) (c .enum-told5 .given .1))
+
+returns-6 : tie.Need-returns-6
+unfolding addressFits
+returns-6 c = let a = c .before .args in
+    others (2 ∷ 3 ∷ 4 ∷ 5 ∷ 7 ∷ []) (λ (k : Kind). true ≡ addressFits k (a .a)) (tt, (tt, (refl, (refl, (refl, (refl, (tt, (refl, (tt, tt))))))))) (a .kind) (c .match .keys6)
 
 pub address-fits-spec : {M : Type 1} → statement M
 address-fits-spec =
@@ -55,8 +63,10 @@ address-fits-spec =
     enum-told-2
     enum-told-3
     enum-told-4
+    enum-told-5
     returns
     returns-2
     returns-3
     returns-4
-    returns-5)
+    returns-5
+    returns-6)

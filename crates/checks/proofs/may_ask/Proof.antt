@@ -19,6 +19,9 @@ enum-told-2 c = search needs
 enum-told-3 : tie.Need-enum-told-3
 enum-told-3 c = search needs
 
+enum-told-4 : tie.Need-enum-told-4
+enum-told-4 c = search needs
+
 returns : tie.Need-returns
 unfolding mayAsk
 returns c = let a = c .before .before .args in
@@ -36,9 +39,15 @@ returns-3 c = let a = c .before .before .args in
 
 returns-4 : tie.Need-returns-4
 unfolding mayAsk
-returns-4 c = let a = c .before .args in
-    others (2 ∷ 3 ∷ 5 ∷ 6 ∷ 7 ∷ 8 ∷ []) (λ (k : Kind). eqb (a .mode) 0 ≡ mayAsk k (a .mode)) (tt, (tt, (refl, (refl, (tt, (refl, (refl, (refl, refl)))))))) (a .kind) (c .match .keys4)
+returns-4 c = let a = c .before .before .args in
+    sym (ap (λ (k : Kind). mayAsk k (a .mode)) (c .enum-told4 .given .1))
+
+returns-5 : tie.Need-returns-5
+unfolding mayAsk
+returns-5 c = let a = c .before .args in
+    others (2 ∷ 3 ∷ 5 ∷ 6 ∷ 7 ∷ 8 ∷ []) (λ (k : Kind). eqb (a .mode) 0 ≡ mayAsk k (a .mode)) (tt, (tt, (refl, (refl, (tt, (refl, (refl, (refl, (refl, tt))))))))) (a .kind) (c .match .keys5)
 
 pub may-ask-spec : {M : Type 1} → statement M
 may-ask-spec =
-    tie.close (tie.spec enum-told enum-told-2 enum-told-3 returns returns-2 returns-3 returns-4)
+    tie.close
+    (tie.spec enum-told enum-told-2 enum-told-3 enum-told-4 returns returns-2 returns-3 returns-4 returns-5)

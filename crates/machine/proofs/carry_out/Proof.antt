@@ -1,7 +1,7 @@
 use mathlib.Core.Path.{sym, ap, _∙_}
 use denote.Ref.{now}
 use Rattle.transfer.proofs.Laws.{regive}
-use Rattle.model.specs.step.Machine.{carried, readStep, writeStep, operate}
+use Rattle.model.specs.step.Machine.{carried, readStep, writeStep, fetchStep, operate}
 use Rattle.model.specs.declared.Size.{Size}
 use Rattle.model.specs.declared.Kind.{Kind}
 use Rattle.model.specs.declared.Registers.{Registers}
@@ -15,6 +15,7 @@ use Rattle.machine.proofs.carry_out.Reads as reads
 use Rattle.machine.proofs.carry_out.Lts as lts
 use Rattle.transfer.proofs.carry.Reads as carry-reads
 use Rattle.transfer.proofs.carry_flushed.Reads as carry-flushed-reads
+use Rattle.transfer.proofs.fetch.Reads as fetch-reads
 use Rattle.transfer.proofs.read.Reads as read-reads
 use Rattle.access.proofs.size_of.Reads as size-of-reads
 use Rattle.machine.proofs.with_context.Reads as with-context-reads
@@ -119,6 +120,12 @@ flush-page-in-requires c κs = search needs
 carry-flushed-requires-3 : tie.Need-carry-flushed-requires-3
 carry-flushed-requires-3 c κs = search needs
 
+enum-told-10 : tie.Need-enum-told-10
+enum-told-10 c = search needs
+
+fetch-requires : tie.Need-fetch-requires
+fetch-requires c κs = search needs
+
 same-length : tie.Need-same-length
 same-length c = search needs
 
@@ -218,6 +225,17 @@ unfolding operate
 returns-9 c = let k = c .before .before in let f = k .before .before .before .before .before in let e = f .before .before .before .before in let a = e .before .before .before .before .args in
     regive _ _ _ _ _ (ap (λ (z : List ℕ). carried (Done 0) (a .r) (now (a .m)) z) (f .flush-page-in .ensures) ∙ sym (ap (λ (w : Kind). operate w (a .o) (a .r) (now (a .m)) (now (a .t))) (e .enum-told9 .given .1))) (k .carry-flushed3 .ensures)
 
+same-length-19 : tie.Need-same-length-19
+same-length-19 c = search needs
+
+same-length-20 : tie.Need-same-length-20
+same-length-20 c = search needs
+
+returns-10 : tie.Need-returns-10
+unfolding operate
+returns-10 c = let k = c .before .before in let e = k .before .before .before in let a = e .before .before .before .before .args in
+    regive _ _ _ _ _ (sym (ap (λ (w : Kind). operate w (a .o) (a .r) (now (a .m)) (now (a .t))) (e .enum-told10 .given .1))) (k .fetch .ensures)
+
 pub carry-out-spec : {M : Type 1} → statement M
 carry-out-spec =
     tie.close
@@ -253,6 +271,8 @@ carry-out-spec =
     cast-flush-page-in-2
     flush-page-in-requires
     carry-flushed-requires-3
+    enum-told-10
+    fetch-requires
     same-length
     same-length-2
     returns
@@ -279,4 +299,7 @@ carry-out-spec =
     returns-8
     same-length-17
     same-length-18
-    returns-9)
+    returns-9
+    same-length-19
+    same-length-20
+    returns-10)

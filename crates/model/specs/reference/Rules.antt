@@ -10,7 +10,7 @@ use lib.Dec.{eqb, leb, ltb}
 use lib.ListN.{length, getD, set}
 use Rattle.model.specs.Limits.{pageSize, sectionSize, addressLimit, rowSize, rootAlignment, memoryUnit, memoryMost, contextsMost}
 use Rattle.model.specs.Numbers.{Result, ok, fault, kindNumber}
-use Rattle.model.specs.Types.{Registers, Operation, Kind, Read, Write, Root, Asid, Mode, All, Addr, Ctx, AddrCtx, Entry}
+use Rattle.model.specs.Types.{Registers, Operation, Kind, Read, Write, Root, Asid, Mode, All, Addr, Ctx, AddrCtx, Fetch, Entry, Purpose, ToRead, ToWrite, ToFetch}
 
 -- ── Reading a map ──
 -- whether n bytes from `at` lie wholly in memory
@@ -39,23 +39,26 @@ descriptor m at n f = cond (inMemory m at 4) (f (value m at 4)) (failed n)
 unfoldable pub globalBy : ℕ → ℕ
 globalBy nG = cond (eqb nG 0) 1 0
 
--- Section: base bits 31..20, AP[2] bit 15, AP[1:0] bits 11..10, nG bit 17; the missing frame bits come from the address. An entry
--- records whether it came from a section: 1 here, 0 for pages.
+-- Section: base bits 31..20, AP[2] bit 15, AP[1:0] bits 11..10, nG bit 17, XN bit 4; the missing frame bits come from the address.
+-- An entry records whether it came from a section: 1 here, 0 for pages.
 unfoldable pub section : ℕ → ℕ → Entry
 section a w = record {
   frame = bits 31 20 w * 256 + a / pageSize % 256;
   ap = bits 15 15 w * 4 + bits 11 10 w;
   section = 1;
   global = globalBy (bits 17 17 w);
+  xn = bits 4 4 w;
 }
 
--- Large page: base bits 31..16. Small page: base bits 31..12. For both, AP[2] is bit 9, AP[1:0] bits 5..4 and nG bit 11.
+-- Large page: base bits 31..16, XN bit 15. Small page: base bits 31..12, XN bit 0. For both, AP[2] is bit 9, AP[1:0] bits 5..4 and nG
+-- bit 11.
 unfoldable pub largePage : ℕ → ℕ → Entry
 largePage a w = record {
   frame = bits 31 16 w * 16 + a / pageSize % 16;
   ap = bits 9 9 w * 4 + bits 5 4 w;
   section = 0;
   global = globalBy (bits 11 11 w);
+  xn = bits 15 15 w;
 }
 
 unfoldable pub smallPage : ℕ → Entry
@@ -64,6 +67,7 @@ smallPage w = record {
   ap = bits 9 9 w * 4 + bits 5 4 w;
   section = 0;
   global = globalBy (bits 11 11 w);
+  xn = bits 0 0 w;
 }
 
 -- Level two. Low two bits 0: no mapping, fault 7. 1: large page. 2 or 3: small page.
@@ -98,13 +102,37 @@ rights =
 unfoldable pub rightOf : ℕ → ℕ → Right
 rightOf ap mode = cond (eqb mode 0) (getD rights ap (nothing, nothing) .0) (getD rights ap (nothing, nothing) .1)
 
--- whether a right allows a read, or a write where `writes` holds
-unfoldable pub allows : Right → Bool → Bool
-allows nothing writes = false
-allows reading writes = cond writes false true
-allows writing writes = true
+-- whether a right is one to read, and one to write
+unfoldable pub mayRead : Right → Bool
+mayRead nothing = false
+mayRead reading = true
+mayRead writing = true
+
+unfoldable pub mayWrite : Right → Bool
+mayWrite nothing = false
+mayWrite reading = false
+mayWrite writing = true
+
+-- What an access needs, by what it is for: a read needs read permission, a write write permission, a fetch read permission and XN clear.
+unfoldable pub permits : Purpose → Right → ℕ → Bool
+permits ToRead right xn = mayRead right
+permits ToWrite right xn = mayWrite right
+permits ToFetch right xn = mayRead right && eqb xn 0
 
 -- ── The operations, and the plain machine: no TLB and no track ──
+-- whether an operation's kind is one of these
+unfoldable pub among : Kind → List Kind → Bool
+among k [] = false
+among k (x ∷ xs) = eqb (kindNumber k) (kindNumber x) || among k xs
+
+-- the operations that are accesses
+abbrev pub accesses : List Kind
+accesses = Read ∷ Write ∷ Fetch ∷ []
+
+-- The size of an access is its field b, and that of a fetch 4.
+unfoldable pub accessSize : Operation → ℕ
+accessSize o = cond (among (o .kind) (Fetch ∷ [])) 4 (o .b)
+
 -- The plain machine holds memory and the registers.
 pub record State : Type 0 where
   pub memory : List ℕ
@@ -122,34 +150,35 @@ stored m at (suc n) v = stored (set m at (v % 256)) (suc at) n (v / 256)
 unfoldable pub aligned : ℕ → ℕ → Bool
 aligned a size = eqb (a % size) 0
 
--- The bytes are read, or written where `writes` holds.
-unfoldable pub touched : Bool → ℕ → ℕ → ℕ → State → Result × State
-touched writes at size v s =
-    cond writes (ok 0, record { memory = stored (s .memory) at size v; registers = s .registers }) (ok (value (s .memory) at size), s)
+-- The bytes are read or written, low byte first; a fetch reads them.
+unfoldable pub touched : Purpose → ℕ → ℕ → ℕ → State → Result × State
+touched ToRead at size v s = (ok (value (s .memory) at size), s)
+touched ToWrite at size v s = (ok 0, record { memory = stored (s .memory) at size v; registers = s .registers })
+touched ToFetch at size v s = (ok (value (s .memory) at size), s)
 
 -- permission, by the entry used: fault 0xd where it came from a section, 0xf where it came from a page
 unfoldable pub permissionFault : Entry → ℕ
 permissionFault e = cond (eqb (e .section) 1) 0xd 0xf
 
 -- An address with its translation: a fault of the walk; permission; fault 8, bytes not in memory; the bytes.
-unfoldable pub translated : Bool → ℕ → ℕ → ℕ → State → Translation → Result × State
-translated writes a size v s (failed n) = (fault n, s)
-translated writes a size v s (found e) =
-    cond (allows (rightOf (e .ap) (s .registers .mode)) writes)
-    (cond (inMemory (s .memory) (physical e a) size) (touched writes (physical e a) size v s) (fault 0x8, s))
+unfoldable pub translated : Purpose → ℕ → ℕ → ℕ → State → Translation → Result × State
+translated x a size v s (failed n) = (fault n, s)
+translated x a size v s (found e) =
+    cond (permits x (rightOf (e .ap) (s .registers .mode)) (e .xn))
+    (cond (inMemory (s .memory) (physical e a) size) (touched x (physical e a) size v s) (fault 0x8, s))
     (fault (permissionFault e), s)
 
--- A read or write: fault 1, address not a multiple of the size; else the address is translated.
-unfoldable pub access : Bool → Operation → State → (ℕ → Translation) → Result × State
-access writes o s f = cond (aligned (o .a) (o .b)) (translated writes (o .a) (o .b) (o .c) s (f (o .a))) (fault 0x1, s)
+-- A read, a write or a fetch: fault 1, address not a multiple of the size; else the address is translated.
+unfoldable pub access : Purpose → Operation → State → (ℕ → Translation) → Result × State
+access x o s f = cond (aligned (o .a) (accessSize o)) (translated x (o .a) (accessSize o) (o .c) s (f (o .a))) (fault 0x1, s)
 
 unfoldable pub setRegisters : State → ℕ → ℕ → ℕ → Result × State
 setRegisters s root context mode = (ok 0, record { memory = s .memory; registers = record { root = root; context = context; mode = mode } })
 
 -- An operation carried out, where f translates addresses. A flush changes neither memory nor registers.
 unfoldable pub effect : Kind → Operation → State → (ℕ → Translation) → Result × State
-effect Read o s f = access false o s f
-effect Write o s f = access true o s f
+effect Read o s f = access ToRead o s f
+effect Write o s f = access ToWrite o s f
 effect Root o s f = setRegisters s (o .a) (s .registers .context) (s .registers .mode)
 effect Asid o s f = setRegisters s (s .registers .root) (o .a) (s .registers .mode)
 effect Mode o s f = setRegisters s (s .registers .root) (s .registers .context) (o .a)
@@ -157,6 +186,7 @@ effect All o s f = (ok 0, s)
 effect Addr o s f = (ok 0, s)
 effect Ctx o s f = (ok 0, s)
 effect AddrCtx o s f = (ok 0, s)
+effect Fetch o s f = access ToFetch o s f
 
 -- the present outcome of an address: what the walk of memory gives now
 unfoldable pub outcome : State → ℕ → Translation
@@ -198,6 +228,7 @@ flushes Addr o x page = eqb page (o .a / pageSize)
 flushes Ctx o (own c) page = eqb c (o .a)
 flushes Ctx o global page = false
 flushes AddrCtx o x page = eqb page (o .a / pageSize) && covers x (o .b)
+flushes Fetch o x page = false
 
 -- ── The chip: the plain machine with a TLB of n places ──
 -- Each place may hold an entry, under the context that it was loaded in and its page.
@@ -293,12 +324,13 @@ pub data Kept : Type 0 where
   one : Entry → Kept
   several : Kept
 
--- The word of one entry: frame in bits 31..12, AP in bits 11..9, section in bit 8, global in bit 7, bit 1 set, other bits clear.
+-- The word of one entry: frame in bits 31..12, AP in bits 11..9, section in bit 8, global in bit 7, XN in bit 6, bit 1 set, other bits
+-- clear.
 unfoldable pub wordOf : Entry → ℕ
-wordOf e = e .frame * 4096 + e .ap * 512 + e .section * 256 + e .global * 128 + 2
+wordOf e = e .frame * 4096 + e .ap * 512 + e .section * 256 + e .global * 128 + e .xn * 64 + 2
 
 unfoldable pub entryOf : ℕ → Entry
-entryOf w = record { frame = bits 31 12 w; ap = bits 11 9 w; section = bits 8 8 w; global = bits 7 7 w }
+entryOf w = record { frame = bits 31 12 w; ap = bits 11 9 w; section = bits 8 8 w; global = bits 7 7 w; xn = bits 6 6 w }
 
 -- Whether an entry suits the row of a scope: global entries that of `global`, the others that of a context.
 unfoldable pub suits : Scope → Entry → Bool
@@ -317,6 +349,7 @@ same x y =
     && eqb (x .ap) (y .ap)
     && eqb (x .section) (y .section)
     && eqb (x .global) (y .global)
+    && eqb (x .xn) (y .xn)
 
 -- A word after an entry was added to its set. A word that counts as several stays as found.
 unfoldable pub addTo : Kept → Entry → ℕ → ℕ
@@ -374,18 +407,13 @@ stale t context page y =
     differs (kept (own context) (trackWord t (own context) page)) y || differs (kept global (trackWord t global page)) y
 
 -- ── Turned back ──
--- whether an operation's kind is one of these
-unfoldable pub among : Kind → List Kind → Bool
-among k [] = false
-among k (x ∷ xs) = eqb (kindNumber k) (kindNumber x) || among k xs
-
 -- 7 size: 1, 2 or 4
 unfoldable pub refuses7 : Operation → Bool
 refuses7 o = among (o .kind) (Read ∷ Write ∷ []) && not (eqb (o .b) 1 || eqb (o .b) 2 || eqb (o .b) 4)
 
 -- 8 address 0x400000 or more, flushes included
 unfoldable pub refuses8 : Operation → Bool
-refuses8 o = among (o .kind) (Read ∷ Write ∷ Addr ∷ AddrCtx ∷ []) && leb addressLimit (o .a)
+refuses8 o = among (o .kind) (Read ∷ Write ∷ Addr ∷ AddrCtx ∷ Fetch ∷ []) && leb addressLimit (o .a)
 
 -- 9 value too large for the size
 unfoldable pub refuses9 : Operation → Bool
@@ -422,14 +450,14 @@ refuses13 m t = wrongMemory m || wrongTrack t
 unfoldable pub refuses14 : Registers → ℕ → Bool
 refuses14 r k = wrongRoot (r .root) || leb k (r .context) || leb 2 (r .mode)
 
--- 15 user mode: all operations but read, write and mode need kernel mode
+-- 15 user mode: all operations but read, write, mode and fetch need kernel mode
 unfoldable pub refuses15 : Operation → Registers → Bool
-refuses15 o r = not (among (o .kind) (Read ∷ Write ∷ Mode ∷ [])) && not (eqb (r .mode) 0)
+refuses15 o r = not (among (o .kind) (Read ∷ Write ∷ Mode ∷ Fetch ∷ [])) && not (eqb (r .mode) 0)
 
 -- 16 stale: an aligned access to a page that is stale in the current context
 unfoldable pub refuses16 : Operation → Registers → List ℕ → List ℕ → Bool
 refuses16 o r m t =
-    among (o .kind) (Read ∷ Write ∷ []) && aligned (o .a) (o .b) && stale t (r .context) (o .a / pageSize) (walk m (r .root) (o .a))
+    among (o .kind) accesses && aligned (o .a) (accessSize o) && stale t (r .context) (o .a / pageSize) (walk m (r .root) (o .a))
 
 -- An operation is tested for 13, 14, then 7 to 12, 15, then 16.
 unfoldable pub conditions : Operation → Registers → List ℕ → List ℕ → List (ℕ × Bool)

@@ -7,7 +7,7 @@ use lib.Dec.{eqb, leb, ltb}
 use Rattle.model.specs.Limits.{addressLimit, rowSize, rootAlignment, memoryUnit, memoryMost, contextsMost, wordLimit}
 use Rattle.model.specs.Numbers.{checkNumber}
 use Rattle.model.specs.step.Track.{lastRow}
-use Rattle.model.specs.Types.{Registers, Operation, Kind, Read, Write, Root, Asid, Mode, All, Addr, Ctx, AddrCtx, Refusal, WrongSize, WrongAddress, WrongValue, WrongRoot, WrongContext, WrongMode, WrongLengths, WrongRegisters, UserMode, Check, Pass, Refuse}
+use Rattle.model.specs.Types.{Registers, Operation, Kind, Read, Write, Root, Asid, Mode, All, Addr, Ctx, AddrCtx, Fetch, Refusal, WrongSize, WrongAddress, WrongValue, WrongRoot, WrongContext, WrongMode, WrongLengths, WrongRegisters, UserMode, Check, Pass, Refuse}
 
 -- whether n bytes can be a memory, and n words a track
 unfoldable pub memoryFits : ℕ → Bool
@@ -40,6 +40,7 @@ sizeFits All b = true
 sizeFits Addr b = true
 sizeFits Ctx b = true
 sizeFits AddrCtx b = true
+sizeFits Fetch b = true
 
 unfoldable pub addressFits : Kind → ℕ → Bool
 addressFits Read a = ltb a addressLimit
@@ -51,6 +52,7 @@ addressFits All a = true
 addressFits Addr a = ltb a addressLimit
 addressFits Ctx a = true
 addressFits AddrCtx a = ltb a addressLimit
+addressFits Fetch a = ltb a addressLimit
 
 abbrev pub fitsSize : ℕ → ℕ → Bool
 fitsSize b c = cond (eqb b 1) (ltb c 256) (cond (eqb b 2) (ltb c 65536) (cond (eqb b 4) (ltb c wordLimit) true))
@@ -65,6 +67,7 @@ valueFits All b c = true
 valueFits Addr b c = true
 valueFits Ctx b c = true
 valueFits AddrCtx b c = true
+valueFits Fetch b c = true
 
 unfoldable pub newRootFits : Kind → ℕ → Bool
 newRootFits Read a = true
@@ -76,6 +79,7 @@ newRootFits All a = true
 newRootFits Addr a = true
 newRootFits Ctx a = true
 newRootFits AddrCtx a = true
+newRootFits Fetch a = true
 
 unfoldable pub contextFits : Kind → ℕ → ℕ → ℕ → Bool
 contextFits Read a b k = true
@@ -87,6 +91,7 @@ contextFits All a b k = true
 contextFits Addr a b k = true
 contextFits Ctx a b k = ltb a k
 contextFits AddrCtx a b k = ltb b k
+contextFits Fetch a b k = true
 
 unfoldable pub modeFits : Kind → ℕ → Bool
 modeFits Read a = true
@@ -98,6 +103,7 @@ modeFits All a = true
 modeFits Addr a = true
 modeFits Ctx a = true
 modeFits AddrCtx a = true
+modeFits Fetch a = true
 
 -- whether the operation may be asked for in this mode
 unfoldable pub mayAsk : Kind → ℕ → Bool
@@ -110,6 +116,7 @@ mayAsk All mode = eqb mode 0
 mayAsk Addr mode = eqb mode 0
 mayAsk Ctx mode = eqb mode 0
 mayAsk AddrCtx mode = eqb mode 0
+mayAsk Fetch mode = true
 
 -- the checks of an operation on a memory of m bytes and a track of t words: what should hold, and the refusal where it does not
 unfoldable pub checks : Operation → Registers → ℕ → ℕ → List (Bool × Refusal)

@@ -12,7 +12,7 @@ use Rattle.model.specs.step.Walk.{walkPage}
 use Rattle.model.specs.step.Rights.{permitted}
 use Rattle.model.specs.step.Track.{noteTrack, flushAll, flushPage, flushContext, flushPageIn, stalePage}
 use Rattle.model.specs.step.Checks.{checks, startChecks, firstFailing}
-use Rattle.model.specs.Types.{Registers, Returned, Operation, Kind, Read, Write, Root, Asid, Mode, All, Addr, Ctx, AddrCtx, Entry, Alignment, Fault, SectionPermission, PagePermission, AccessOutside, Refusal, StalePage, Answer, Done, Faulted, Refused, Size, One, Two, Four, Loaded, Value, Outside, Outcome, Mapped, Failed, Check, Pass, Refuse, Access, Stale, Fails, Physical}
+use Rattle.model.specs.Types.{Registers, Returned, Operation, Kind, Read, Write, Root, Asid, Mode, All, Addr, Ctx, AddrCtx, Fetch, Entry, Alignment, Fault, SectionPermission, PagePermission, AccessOutside, Refusal, StalePage, Answer, Done, Faulted, Refused, Size, One, Two, Four, Purpose, ToRead, ToWrite, ToFetch, Loaded, Value, Outside, Outcome, Mapped, Failed, Check, Pass, Refuse, Access, Stale, Fails, Physical}
 
 -- What a start or an operation gives: what it returns, and what it leaves in memory and track.
 pub record After : Type 0 where
@@ -50,29 +50,29 @@ unfoldable pub permissionFaultOf : Entry → Fault
 permissionFaultOf e = cond (eqb (e .section) 1) SectionPermission PagePermission
 
 -- an access to a page with this outcome: permission, then the bytes
-abbrev pub granted : Outcome → ℕ → Bool → Size → ℕ → List ℕ → Access
-granted (Failed f) mode writes size a m = Fails f
-granted (Mapped e) mode writes size a m =
-    cond (permitted (e .ap) mode writes)
+abbrev pub granted : Outcome → ℕ → Purpose → Size → ℕ → List ℕ → Access
+granted (Failed f) mode purpose size a m = Fails f
+granted (Mapped e) mode purpose size a m =
+    cond (permitted (e .ap) mode purpose (e .xn))
     (cond (within size m (physicalOf e a)) (Physical (physicalOf e a)) (Fails AccessOutside))
     (Fails (permissionFaultOf e))
 
 -- an access to a page with this outcome, which is stale or not
-unfoldable pub decided : Outcome → Bool → ℕ → Bool → Size → ℕ → List ℕ → Access
-decided x isStale mode writes size a m =
-    cond (eqb (a % bytesOf size) 0) (cond isStale Stale (granted x mode writes size a m)) (Fails Alignment)
+unfoldable pub decided : Outcome → Bool → ℕ → Purpose → Size → ℕ → List ℕ → Access
+decided x isStale mode purpose size a m =
+    cond (eqb (a % bytesOf size) 0) (cond isStale Stale (granted x mode purpose size a m)) (Fails Alignment)
 
-unfoldable pub accessAt : Registers → List ℕ → List ℕ → Bool → Size → ℕ → Access
-accessAt r m t writes size a =
+unfoldable pub accessAt : Registers → List ℕ → List ℕ → Purpose → Size → ℕ → Access
+accessAt r m t purpose size a =
     let x = walkPage m (r .root) (a / pageSize) in
-    decided x (stalePage t (r .context) (a / pageSize) x) (r .mode) writes size a m
+    decided x (stalePage t (r .context) (a / pageSize) x) (r .mode) purpose size a m
 
 -- the number that loading found: an access has tested that it lies in memory
 abbrev pub valueOf : Loaded → ℕ
 valueOf (Value v) = v
 valueOf Outside = 0
 
--- a read and a write, by what the access comes to
+-- a read, or a fetch, and a write, by what the access comes to
 abbrev pub readFrom : Access → Size → Registers → List ℕ → List ℕ → After
 readFrom Stale size r m t = turnedBack StalePage r m t
 readFrom (Fails f) size r m t = carried (Faulted f) r m t
@@ -84,10 +84,13 @@ writeTo (Fails f) size v r m t = carried (Faulted f) r m t
 writeTo (Physical p) size v r m t = carried (Done 0) r (writtenAt size m p v) t
 
 unfoldable pub readStep : ℕ → Size → Registers → List ℕ → List ℕ → After
-readStep a size r m t = readFrom (accessAt r m t false size a) size r m t
+readStep a size r m t = readFrom (accessAt r m t ToRead size a) size r m t
 
 unfoldable pub writeStep : ℕ → Size → ℕ → Registers → List ℕ → List ℕ → After
-writeStep a size v r m t = writeTo (accessAt r m t true size a) size v r m t
+writeStep a size v r m t = writeTo (accessAt r m t ToWrite size a) size v r m t
+
+unfoldable pub fetchStep : ℕ → Registers → List ℕ → List ℕ → After
+fetchStep a r m t = readFrom (accessAt r m t ToFetch Four a) Four r m t
 
 -- registers with one of them set
 abbrev pub withRoot : Registers → ℕ → Registers
@@ -110,6 +113,7 @@ operate All o r m t = carried (Done 0) r m (flushAll t)
 operate Addr o r m t = carried (Done 0) r m (flushPage (o .a / pageSize) t)
 operate Ctx o r m t = carried (Done 0) r m (flushContext (o .a) t)
 operate AddrCtx o r m t = carried (Done 0) r m (flushPageIn (o .b) (o .a / pageSize) t)
+operate Fetch o r m t = fetchStep (o .a) r m t
 
 abbrev pub afterChecks : Check → Operation → Registers → List ℕ → List ℕ → After
 afterChecks (Refuse n) o r m t = turnedBack n r m t

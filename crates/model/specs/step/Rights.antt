@@ -2,6 +2,7 @@
 use Prim.Native.Nat.{ℕ}
 use mathlib.Core.Bool.{Bool, true, false, cond}
 use lib.Dec.{eqb, leb}
+use Rattle.model.specs.Types.{Purpose, ToRead, ToWrite, ToFetch}
 
 -- whether x is one of low to high
 abbrev pub between : ℕ → ℕ → ℕ → Bool
@@ -16,6 +17,8 @@ userRights ap = cond (eqb ap 3) 2 (cond (eqb ap 2) 1 (cond (between 6 7 ap) 1 0)
 unfoldable pub rightsOf : ℕ → ℕ → ℕ
 rightsOf ap mode = cond (eqb mode 0) (kernelRights ap) (userRights ap)
 
--- a write needs 2, a read 1
-unfoldable pub permitted : ℕ → ℕ → Bool → Bool
-permitted ap mode writes = cond writes (leb 2 (rightsOf ap mode)) (leb 1 (rightsOf ap mode))
+-- a write needs 2, a read 1, and a fetch 1 and the XN bit clear
+unfoldable pub permitted : ℕ → ℕ → Purpose → ℕ → Bool
+permitted ap mode ToRead xn = leb 1 (rightsOf ap mode)
+permitted ap mode ToWrite xn = leb 2 (rightsOf ap mode)
+permitted ap mode ToFetch xn = cond (leb 1 (rightsOf ap mode)) (eqb xn 0) false

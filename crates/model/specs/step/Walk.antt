@@ -20,15 +20,25 @@ sectionGlobal w = 1 - w / 131072 % 2
 abbrev pub pageGlobal : ℕ → ℕ
 pageGlobal w = 1 - w / 2048 % 2
 
+-- the XN bit of a section's word, of a large page's and of a small page's
+abbrev pub sectionXn : ℕ → ℕ
+sectionXn w = w / 16 % 2
+
+abbrev pub largeXn : ℕ → ℕ
+largeXn w = w / 32768 % 2
+
+abbrev pub smallXn : ℕ → ℕ
+smallXn w = w % 2
+
 -- the entries of the three kinds of mapping, for one page
 abbrev pub sectionEntry : ℕ → ℕ → Entry
-sectionEntry w page = record { frame = w / 1048576 % 4096 * 256 + page % 256; ap = sectionAp w; section = 1; global = sectionGlobal w }
+sectionEntry w page = record { frame = w / 1048576 % 4096 * 256 + page % 256; ap = sectionAp w; section = 1; global = sectionGlobal w; xn = sectionXn w }
 
 abbrev pub largeEntry : ℕ → ℕ → Entry
-largeEntry w page = record { frame = w / 65536 % 65536 * 16 + page % 16; ap = pageAp w; section = 0; global = pageGlobal w }
+largeEntry w page = record { frame = w / 65536 % 65536 * 16 + page % 16; ap = pageAp w; section = 0; global = pageGlobal w; xn = largeXn w }
 
 abbrev pub smallEntry : ℕ → Entry
-smallEntry w = record { frame = w / 4096 % 1048576; ap = pageAp w; section = 0; global = pageGlobal w }
+smallEntry w = record { frame = w / 4096 % 1048576; ap = pageAp w; section = 0; global = pageGlobal w; xn = smallXn w }
 
 -- a descriptor is a word of memory
 abbrev pub descriptorAt : List ℕ → ℕ → Loaded

@@ -3,7 +3,7 @@ use native.Mathlib.Omega.{arith}
 use lib.ListN.{length}
 use denote.Ref.{now}
 use Rattle.text.proofs.PutLaws.{wrote-fits}
-use Rattle.model.specs.declared.Kind.the-variants.{Read, Write, Root, Asid, Mode, All, Addr, Ctx, AddrCtx}
+use Rattle.model.specs.declared.Kind.the-variants.{Read, Write, Root, Asid, Mode, All, Addr, Ctx, AddrCtx, Fetch}
 use Rattle.names.specs.Names.{name}
 use borrow.Author.Needs.{needs}
 use Rattle.names.proofs.copy_name.Statement.{statement}
@@ -93,6 +93,15 @@ slice-aggregate-put-9 c = search needs
 put-requires-9 : tie.Need-put-requires-9
 put-requires-9 c κs = search needs
 
+enum-told-10 : tie.Need-enum-told-10
+enum-told-10 c = search needs
+
+slice-aggregate-put-10 : tie.Need-slice-aggregate-put-10
+slice-aggregate-put-10 c = search needs
+
+put-requires-10 : tie.Need-put-requires-10
+put-requires-10 c κs = search needs
+
 same-length : tie.Need-same-length
 same-length c = search needs
 
@@ -156,6 +165,13 @@ returns-9 : tie.Need-returns-9
 returns-9 c = let k = c .before .before in let e = k .before .before .before in let a = e .before .before .before .args in
     rw (e .enum-told9 .given .1) (wrote-fits (length (name AddrCtx)) (now (a .out)) (a .at) (name AddrCtx) _ _ (omega (arith, e .before .before .before .pre)) (k .put9 .ensures))
 
+same-length-10 : tie.Need-same-length-10
+same-length-10 c = search needs
+
+returns-10 : tie.Need-returns-10
+returns-10 c = let k = c .before .before in let e = k .before .before .before in let a = e .before .before .before .args in
+    rw (e .enum-told10 .given .1) (wrote-fits (length (name Fetch)) (now (a .out)) (a .at) (name Fetch) _ _ (omega (arith, e .before .before .before .pre)) (k .put10 .ensures))
+
 pub copy-name-spec : {M : Type 1} → statement M
 copy-name-spec =
     tie.close
@@ -187,6 +203,9 @@ copy-name-spec =
     enum-told-9
     slice-aggregate-put-9
     put-requires-9
+    enum-told-10
+    slice-aggregate-put-10
+    put-requires-10
     same-length
     returns
     same-length-2
@@ -204,4 +223,6 @@ copy-name-spec =
     same-length-8
     returns-8
     same-length-9
-    returns-9)
+    returns-9
+    same-length-10
+    returns-10)
