@@ -3,22 +3,21 @@
 use Prim.Native.Nat.{ℕ, _+_}
 use mathlib.Core.Path.{_≡_, refl, sym, _∙_}
 use mathlib.Core.Logic.{inl}
-use mathlib.Core.Bool.{Bool, true, false, cond, true≢false}
+use mathlib.Core.Bool.{true, false, cond}
 use mathlib.Core.Option.{Option, some}
 use mathlib.Core.List.{List, [], _∷_}
 use lib.ListN.{length, set, replicate}
 use Rattle.model.specs.Numbers.{Result, ok, fault, refused, shown}
-use Rattle.model.specs.reference.Rules.{found, failed, fresh, access, translated, touched, stored, aligned, among, accessSize, mayRead, mayWrite, permits, permissionFault, rightOf, physical, outcome, setRegisters, effect, carriedOut, plainStep, scopeOf, covers, flushes, heldScope, matches, heldFor, anyClash, load, isFree, putIn, move, moves, orWalk, chipOutcome, flushPlace, chipStep, walk, descriptor, tableWord, pageWord, globalBy, section, smallPage, bits, value, inMemory}
+use Rattle.model.specs.reference.Rules.{fresh, access, translated, touched, stored, aligned, among, accessSize, mayRead, mayWrite, permits, permissionFault, rightOf, physical, outcome, setRegisters, effect, carriedOut, plainStep, scopeOf, covers, flushes, heldScope, matches, heldFor, anyClash, load, isFree, putIn, move, moves, orWalk, chipOutcome, flushPlace, chipStep, walk, descriptor, tableWord, pageWord, globalBy, section, smallPage, bits, value, inMemory}
 use Rattle.model.specs.reference.Runs.{last, Checker, next, checkerRun, isRefused, told, plainRun, chipStart, chipNext, chipRun, Holds}
 use Rattle.model.specs.step.Machine.{started, stepped}
 use Rattle.model.specs.Invisible.{Accepted, isAccess, alignedAccess, atEnd, plainLast, chipLast, CouldDiffer, checker}
 use Rattle.model.specs.Wrong.{StaleAlwaysThen}
-use Rattle.model.specs.declared.Entry.{Entry}
 use Rattle.model.specs.declared.Operation.{Operation}
 use Rattle.model.specs.declared.Kind.the-variants.{Write, Fetch}
 use Rattle.model.proofs.CaseTools.{next as stepOn}
 use Rattle.model.proofs.Chips.{held}
-use Rattle.cases.proofs.OldEntry.{could-differ, only-old}
+use Rattle.cases.proofs.OldEntry.{could-differ, failed-found, fault-refused, only-old}
 use Rattle.cases.proofs.Witness.{unmap, old, case, accepted, throughout}
 
 -- ── A fetch of a page that some TLB may still hold ──
@@ -59,13 +58,7 @@ blind-faults : shown (next blindFetch fetchBack (atEnd blindFetch case) .answer)
 unfolding blindFetch case unmap fetchBack among checkerRun last stepOn
 blind-faults = refl
 
-fault-refused : (n r : ℕ) → _≡_ {A = Result} (fault n) (refused r) → ⊥
-fault-refused n r q = let z : _≡_ {A = Bool} true false = cc in true≢false z
-
 -- a chip of one place that loaded the page before the store holds its old entry
-failed-found : (n : ℕ) (e : Entry) → failed n ≡ found e → ⊥
-failed-found n e q = let z : _≡_ {A = Bool} true false = cc in true≢false z
-
 blind-differs : CouldDiffer blindFetch case fetchBack
 unfolding blindFetch case unmap fetchBack old told isRefused stepOn Holds last plainRun plainStep carriedOut effect access translated touched stored aligned
     accessSize among mayRead mayWrite permits rightOf physical fresh chipStart chipRun chipNext chipStep chipOutcome orWalk heldFor moves move isFree anyClash

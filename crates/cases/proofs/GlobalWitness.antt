@@ -1,7 +1,7 @@
 -- A global page taken through the second half: unmapped by a store in context 0, then read in context 1.
 use Prim.Native.Nat.{ℕ, _*_}
 use mathlib.Core.Path.{_≡_, refl, sym, ap, _∙_, subst}
-use mathlib.Core.Bool.{Bool, true, false, true≢false}
+use mathlib.Core.Bool.{Bool, true, false}
 use mathlib.Core.Option.{Option, none}
 use mathlib.Core.List.{List, [], _∷_}
 use lib.ListN.{replicate}
@@ -16,7 +16,7 @@ use Rattle.model.specs.declared.Entry.{Entry}
 use Rattle.model.proofs.CaseTools.{put, zeros, next as stepOn}
 use Rattle.model.proofs.Chips.{held}
 use Rattle.model.proofs.ThirdDemand.{invisible}
-use Rattle.cases.proofs.OldEntry.{could-differ, Throughout, still, gone, only-old}
+use Rattle.cases.proofs.OldEntry.{could-differ, fault-refused, Throughout, still, gone, only-old}
 use Rattle.cases.proofs.Witness.{unmap, readBack, read-aligned}
 
 -- page 0: frame 0, AP 1, nG set, and through it the tables are written; page 1 by this level-two word
@@ -101,9 +101,6 @@ holds-old-global y =
 own-faults : shown (next checker readBack (atEnd checker (across ownWord)) .answer) ≡ fault 0x7
 unfolding across unmap toContext1 readBack checkerRun last stepOn
 own-faults = refl
-
-fault-refused : (n r : ℕ) → _≡_ {A = Result} (fault n) (refused r) → ⊥
-fault-refused n r q = let z : _≡_ {A = Bool} true false = cc in true≢false z
 
 pub own-same : CouldDiffer checker (across ownWord) readBack → ⊥
 own-same y = fault-refused 0x7 16

@@ -11,7 +11,7 @@ use borrow.Author.Tests.{eqb-true}
 use Rattle.tlb.specs.Places.{Within}
 use Rattle.tlb.proofs.PlaceLaws.{within-none, within-flushed}
 use Rattle.model.specs.Limits.{pageSize}
-use Rattle.model.specs.Numbers.{Result, refused, shown}
+use Rattle.model.specs.Numbers.{Result, fault, refused, shown}
 use Rattle.model.specs.reference.Rules.{found, failed, State, fresh, outcome, plainStep, covers, Held, heldScope, matches, Move, flushPlace, chipStep}
 use Rattle.model.specs.reference.Runs.{last, next, plainRun, Moment, chipStart, chipNext, chipRun, chipSeen}
 use Rattle.model.specs.Invisible.{Session, Accepted, toldOf, chipStartOf, plainEnd, atEnd, alignedAccess, CouldDiffer, checker}
@@ -33,8 +33,11 @@ could-differ x acc o a q = invisible .exactly .stale x acc o a (λ r e. same-num
 found-same : (x e : Entry) → found x ≡ found e → e ≡ x
 found-same x e q = cc
 
-failed-found : (n : ℕ) (e : Entry) → failed n ≡ found e → ⊥
+pub failed-found : (n : ℕ) (e : Entry) → failed n ≡ found e → ⊥
 failed-found n e q = let z : _≡_ {A = Bool} true false = cc in true≢false z
+
+pub fault-refused : (n r : ℕ) → _≡_ {A = Result} (fault n) (refused r) → ⊥
+fault-refused n r q = let z : _≡_ {A = Bool} true false = cc in true≢false z
 
 first-same : {A : Type 0} (x y : A) (xs ys : List A) → x ∷ xs ≡ y ∷ ys → x ≡ y
 first-same x y xs ys q = cc
