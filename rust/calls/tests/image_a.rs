@@ -14,6 +14,7 @@ const ALL: u32 = 5;
 const ADDR: u32 = 6;
 const CTX: u32 = 7;
 const ADDRCTX: u32 = 8;
+const FETCH: u32 = 9;
 
 /// An empty track for this many contexts: a row for each, and the global one.
 fn track(contexts: usize) -> Vec<u32> {
@@ -60,6 +61,22 @@ fn walks_of_global_pages() {
     assert_eq!(calls::walk(&image, 0, 0x1_0000), 0x2_0682);
     assert_eq!(calls::walk(&image, 0, 0x1_1000), 0x2_1602);
     assert_eq!(calls::walk(&image, 0, 0x1A_B000), 0x300A_B782);
+}
+
+/// With XN set, the word of a small page, a large page or a section has bit 6 set, own or global.
+#[test]
+fn walks_with_xn() {
+    let mut image = image_a();
+    put(&mut image, &[(0x4, 0x3002_0C12), (0x8, 0x3000_0C12)]);
+    put(&mut image, &[(0x404, 0x3833), (0x408, 0x3033)]);
+    put(&mut image, &[(0x440, 0x2_8831), (0x444, 0x2_8031)]);
+    assert_eq!(calls::walk(&image, 0, 0x0), 0x202);
+    assert_eq!(calls::walk(&image, 0, 0x1000), 0x3642);
+    assert_eq!(calls::walk(&image, 0, 0x2000), 0x36C2);
+    assert_eq!(calls::walk(&image, 0, 0x1_0000), 0x2_0642);
+    assert_eq!(calls::walk(&image, 0, 0x1_1000), 0x2_16C2);
+    assert_eq!(calls::walk(&image, 0, 0x1A_B000), 0x300A_B742);
+    assert_eq!(calls::walk(&image, 0, 0x2A_B000), 0x300A_B7C2);
 }
 
 #[test]
@@ -182,6 +199,195 @@ fn a_global_page() {
     assert_eq!(given, REFUSAL + 16);
 }
 
+/// A machine of one context started on image A with these words put in.
+struct Started {
+    memory: Vec<u8>,
+    track: Vec<u32>,
+    registers: [u32; 3],
+}
+
+impl Started {
+    fn with(words: &[(usize, u32)]) -> Started {
+        let (mut memory, mut track, mut registers) = (image_a(), track(1), [9; 3]);
+        put(&mut memory, words);
+        assert_eq!(calls::start(&memory, &mut track, 0, &mut registers), 0);
+        Started {
+            memory,
+            track,
+            registers,
+        }
+    }
+
+    fn step(&mut self, operation: [u32; 4]) -> u64 {
+        let registers = &mut self.registers;
+        calls::step(&operation, registers, &mut self.memory, &mut self.track)
+    }
+
+    /// The answers to a read of four bytes and to a fetch, in kernel mode, then in user mode.
+    fn read_and_fetched(&mut self, address: u32) -> [[u64; 2]; 2] {
+        [0, 1].map(|mode| {
+            assert_eq!(self.step([MODE, mode, 0, 0]), 0);
+            [[READ, address, 4, 0], [FETCH, address, 0, 0]].map(|o| self.step(o))
+        })
+    }
+}
+
+/// What is read and fetched from page 1, by its AP and XN, in both modes. Where nothing is read
+/// nothing is fetched, and XN stops a fetch and no read.
+#[test]
+fn fetches_by_ap_and_xn() {
+    let none = FAULT + 0xf;
+    let word = 0x1234_5678;
+    for (ap, kernel, user) in [
+        (0, none, none),
+        (1, word, none),
+        (2, word, word),
+        (3, word, word),
+        (4, none, none),
+        (5, word, none),
+        (6, word, word),
+        (7, word, word),
+    ] {
+        let small = 0x3802 | (ap & 3) << 4 | (ap >> 2) << 9;
+        let mut clear = Started::with(&[(0x404, small)]);
+        let found = clear.read_and_fetched(0x1000);
+        assert_eq!(found, [[kernel, kernel], [user, user]], "AP {ap}");
+        let mut set = Started::with(&[(0x404, small | 1)]);
+        let found = set.read_and_fetched(0x1000);
+        assert_eq!(found, [[kernel, none], [user, none]], "AP {ap}, XN");
+    }
+}
+
+/// As for the small page, so for a large page and a section, whose permission fault is another. A
+/// store goes through with XN set.
+#[test]
+fn fetches_from_each_kind_of_page() {
+    let word = 0x1234_5678;
+    for (at, clear, xn, address, fault) in [
+        (0x404, 0x3832, 1, 0x1000, 0xf),
+        (0x44C, 0x831, 1 << 15, 0x1_3000, 0xf),
+        (0x4, 0x2_0C02, 1 << 4, 0x10_3000, 0xd),
+    ] {
+        let mut open = Started::with(&[(at, clear)]);
+        assert_eq!(open.read_and_fetched(address), [[word, word]; 2]);
+        let mut shut = Started::with(&[(at, clear | xn)]);
+        let stopped = [word, FAULT + fault];
+        assert_eq!(shut.read_and_fetched(address), [stopped; 2]);
+        assert_eq!(shut.step([WRITE, address, 4, 5]), 0);
+        assert_eq!(shut.step([READ, address, 4, 0]), 5);
+    }
+}
+
+/// A fetch takes four bytes, the low one first, and looks at neither b nor c.
+#[test]
+fn what_a_fetch_asks_for() {
+    let mut started = Started::with(&[]);
+    let left = (started.memory.clone(), started.track.clone());
+    for (b, c) in [(0, 0), (1, 0), (3, 0), (0, 1), (u32::MAX, u32::MAX)] {
+        let fetch = [FETCH, 0x1000, b, c];
+        assert_eq!(started.step(fetch), 0x1234_5678, "{fetch:x?}");
+        let last = [FETCH, 0x1FFC, b, c];
+        assert_eq!(started.step(last), 0, "{last:x?}");
+        for unaligned in [0x1001, 0x1002, 0x1003, 0x1FFF] {
+            let fetch = [FETCH, unaligned, b, c];
+            assert_eq!(started.step(fetch), FAULT + 1, "{fetch:x?}");
+        }
+    }
+    assert!(left == (started.memory, started.track));
+}
+
+/// The last page of the window is mapped to frame 3. What lies behind the window is refused, aligned
+/// or not, in both modes.
+#[test]
+fn fetches_at_the_end_of_the_window() {
+    let words = [(0xC, 0x801), (0xBFC, 0x3832), (0x3FFC, 0x89AB_CDEF)];
+    let mut started = Started::with(&words);
+    for mode in [0, 1] {
+        assert_eq!(started.step([MODE, mode, 0, 0]), 0);
+        for (address, answer) in [
+            (0x3F_FFFC, 0x89AB_CDEF),
+            (0x3F_FFFD, FAULT + 1),
+            (0x3F_FFFF, FAULT + 1),
+            (0x40_0000, REFUSAL + 8),
+            (0x40_0001, REFUSAL + 8),
+            (u32::MAX, REFUSAL + 8),
+        ] {
+            let given = started.step([FETCH, address, 0, 0]);
+            assert_eq!(given, answer, "{address:#x}, mode {mode}");
+        }
+    }
+}
+
+/// The faults of a fetch that come from its walk or its frame.
+#[test]
+fn fetches_out_of_the_map_and_out_of_memory() {
+    let words = [(0x8, 0x8001), (0x404, 0x8832), (0x408, 0x8833)];
+    let mut started = Started::with(&words);
+    for (address, fault) in [
+        (0x10_0000, 0x5),
+        (0x20_0000, 0xe),
+        (0x3000, 0x7),
+        (0x1000, 0x8),
+        (0x2000, 0xf),
+    ] {
+        let given = started.step([FETCH, address, 0, 0]);
+        assert_eq!(given, FAULT + fault, "{address:#x}");
+    }
+    // Behind the end of memory, where no page is mapped.
+    assert_eq!(started.step([ROOT, 0x8000, 0, 0]), 0);
+    assert_eq!(started.step([ALL, 0, 0, 0]), 0);
+    assert_eq!(started.step([FETCH, 0x1000, 0, 0]), FAULT + 0xc);
+}
+
+/// Only XN of page 1 changes: its word is at 1, and it is stale for reads, writes and fetches until
+/// a flush. An unaligned fetch of a stale page is fault 1.
+#[test]
+fn xn_alone_changed() {
+    let accesses = [
+        [READ, 0x1000, 4, 0],
+        [READ, 0x1001, 1, 0],
+        [WRITE, 0x1000, 4, 0x1234_5678],
+        [FETCH, 0x1000, 0, 0],
+    ];
+    for (old, new, word, fetched) in [
+        (0x3832, 0x3833, 0x3642, FAULT + 0xf),
+        (0x3833, 0x3832, 0x3602, 0x1234_5678),
+    ] {
+        let mut started = Started::with(&[(0x404, old)]);
+        assert_eq!(started.step([WRITE, 0x404, 4, new]), 0);
+        assert_eq!(started.track[1], 1);
+        for access in accesses {
+            assert_eq!(started.step(access), REFUSAL + 16, "{access:x?}");
+        }
+        assert_eq!(started.step([FETCH, 0x1002, 0, 0]), FAULT + 1);
+        assert_eq!(started.step([ADDR, 0x1000, 0, 0]), 0);
+        assert_eq!(started.track[1], word);
+        for (access, answer) in accesses.into_iter().zip([0x1234_5678, 0x56, 0, fetched]) {
+            assert_eq!(started.step(access), answer, "{access:x?}");
+        }
+    }
+}
+
+/// A lent word of page 1 that differs from that of its entry in one bit: with XN it is another
+/// entry, and noting leaves 1; with a bit that no entry has it stays. A flush leaves the right word.
+#[test]
+fn words_with_a_bit_more() {
+    for bit in 2..=6 {
+        let lent = 0x3602 | 1 << bit;
+        let mut started = Started::with(&[]);
+        started.track[1] = lent;
+        for access in [[READ, 0x1000, 4, 0], [FETCH, 0x1000, 0, 0]] {
+            assert_eq!(started.step(access), REFUSAL + 16, "bit {bit}");
+        }
+        assert_eq!(started.track[1], lent, "bit {bit}");
+        assert_eq!(started.step([FETCH, 0x1002, 0, 0]), FAULT + 1);
+        let noted = if bit == 6 { 1 } else { lent };
+        assert_eq!(started.track[1], noted, "bit {bit}");
+        assert_eq!(started.step([CTX, 0, 0, 0]), 0);
+        assert_eq!(started.track[1], 0x3602, "bit {bit}");
+    }
+}
+
 /// A row for each of 1 to 256 contexts and the global one; no other length.
 #[test]
 fn lengths_of_tracks() {
@@ -263,19 +469,24 @@ fn refusals_leave_everything() {
         (2048, [0, 0, 0], 16),
     ];
     for (words, given, refusal) in states {
-        let mut registers = given;
-        let answer = calls::step(
-            &[READ, 0, 4, 0],
-            &mut registers,
-            &mut memory,
-            &mut track[..words],
-        );
-        assert_eq!(answer, REFUSAL + refusal);
-        assert_eq!(registers, given);
+        for operation in [[READ, 0, 4, 0], [FETCH, 0, 0, 0]] {
+            let mut registers = given;
+            let track = &mut track[..words];
+            let answer = calls::step(&operation, &mut registers, &mut memory, track);
+            assert_eq!(answer, REFUSAL + refusal);
+            assert_eq!(registers, given);
+        }
     }
     // words that are no operation
     let mut registers = [0; 3];
-    for operation in [&[READ, 0, 4][..], &[9, 0, 4, 0][..]] {
+    for operation in [
+        &[READ, 0, 4][..],
+        &[FETCH, 0, 0],
+        &[FETCH, 0, 0, 0, 0],
+        &[10, 0, 4, 0],
+        &[11, 0, 0, 0],
+        &[u32::MAX, 0, 4, 0],
+    ] {
         assert_eq!(
             calls::step(operation, &mut registers, &mut memory, &mut track),
             NO_CALL

@@ -3,12 +3,14 @@
 use compare::{cases, keep, Tally};
 use model::chip::{Chip, Held, Plain};
 use model::generate::{self, damaged, operations, PAGES};
-use model::machine::{Answer, Kind, Machine, Operation, Scope};
+use model::machine::{Answer, Kind, Machine, Operation, Scope, KINDS};
 use model::random::Random;
-use model::walk::Entry;
+use model::walk::{fault, Entry};
 use std::collections::BTreeSet;
 
 const CONTEXTS: u32 = 3;
+
+const ACCESSES: [Kind; 3] = [Kind::Read, Kind::Write, Kind::Fetch];
 
 fn list(random: &mut Random, memory: u32) -> Vec<Operation> {
     let length = 10 + random.below(30);
@@ -42,12 +44,28 @@ enum By {
     Another,
 }
 
+const BY: [By; 3] = [By::Tables, By::Own, By::Another];
+
 fn by(chip: &Chip, access: &Operation) -> By {
     match chip.held(access.a >> 12) {
         None => By::Tables,
         Some(held) if held.context == chip.plain.registers.context => By::Own,
         Some(_) => By::Another,
     }
+}
+
+/// What translates a fetch that XN stops, though the page may be read.
+fn stopped_by_xn(chip: &Chip, fetch: &Operation) -> Option<By> {
+    if fetch.kind != Kind::Fetch {
+        return None;
+    }
+    let read = Operation {
+        kind: Kind::Read,
+        b: 4,
+        ..*fetch
+    };
+    let answers = [fetch, &read].map(|o| chip.clone().step(o));
+    matches!(answers, [Answer::Fault(_), Answer::Ok(_)]).then(|| by(chip, fetch))
 }
 
 /// Whether at most one held entry matches a page in each context.
@@ -63,6 +81,7 @@ fn one_matches_at_most(chip: &Chip) -> bool {
 fn chips_agree_with_the_machine() {
     let mut seen = Tally::new();
     let mut used = Tally::new();
+    let mut stops = Tally::new();
     for (case, mut random) in cases(1_200) {
         let image = generate::image(&mut random);
         let operations = list(&mut random, image.len() as u32);
@@ -79,7 +98,10 @@ fn chips_agree_with_the_machine() {
             });
             if !matches!(answer, Answer::Refused(_)) {
                 if o.is_access() && o.is_aligned() {
-                    used.add(by(&chip, o));
+                    used.add((o.kind, by(&chip, o)));
+                }
+                if let Some(stopped) = stopped_by_xn(&chip, o) {
+                    stops.add(stopped);
                 }
                 let (by_plain, by_chip) = (plain.step(o), chip.step(o));
                 if answer != by_plain || answer != by_chip {
@@ -99,12 +121,14 @@ fn chips_agree_with_the_machine() {
             }
         }
     }
-    used.must_have("accesses, by", [By::Tables, By::Own, By::Another]);
-    let flushes = [Kind::All, Kind::Addr, Kind::Ctx, Kind::AddrCtx];
-    let carried = [Kind::Read, Kind::Write, Kind::Root, Kind::Asid, Kind::Mode];
-    let stale = [Kind::Read, Kind::Write].map(|kind| (kind, Answer::Refused(16)));
-    let all = flushes.into_iter().chain(carried);
-    seen.must_have("chips", all.map(|kind| (kind, Answer::Ok(0))).chain(stale));
+    let by_each = |kind| BY.map(|by| (kind, by));
+    used.must_have("accesses, by", ACCESSES.map(by_each).concat());
+    stops.must_have("fetches stopped by XN, by", BY);
+    let carried = KINDS.map(|(kind, _, _)| (kind, Answer::Ok(0)));
+    let stale = ACCESSES.map(|kind| (kind, Answer::Refused(16)));
+    let permission = [fault::PERMISSION_SECTION, fault::PERMISSION_PAGE];
+    let faults = permission.map(|n| (Kind::Fetch, Answer::Fault(n)));
+    seen.must_have("chips", carried.into_iter().chain(stale).chain(faults));
 }
 
 /// What a TLB of one place can hold for a page at the end, of what matches it in the context that is
@@ -132,12 +156,20 @@ fn reachable(image: &[u8], root: u32, told: &[(Operation, bool)], page: u32) -> 
 
 /// Whether two entries differ in this alone, that one came from a section.
 fn is_split(x: Entry, y: Entry) -> bool {
-    x.section != y.section && (x.frame, x.ap, x.global) == (y.frame, y.ap, y.global)
+    let section = y.section;
+    x.section != section && Entry { section, ..x } == y
 }
 
 /// Whether two entries differ in this alone, that one is global.
 fn is_turned(x: Entry, y: Entry) -> bool {
-    x.global != y.global && (x.frame, x.ap, x.section) == (y.frame, y.ap, y.section)
+    let global = y.global;
+    x.global != global && Entry { global, ..x } == y
+}
+
+/// Whether two entries differ in XN alone.
+fn is_xn_changed(x: Entry, y: Entry) -> bool {
+    let xn = y.xn;
+    x.xn != xn && Entry { xn, ..x } == y
 }
 
 /// What makes a page stale: by its sets, and of these such as are easily forgotten.
@@ -153,17 +185,23 @@ enum Stale {
     SectionAlone,
     /// Entries that differ from the present one in this alone, that one is global.
     NgAlone,
+    /// Entries that differ from the present one in XN alone: of a section, or of a page.
+    XnAlone {
+        section: bool,
+    },
     /// Entries that were all loaded in other contexts.
     LoadedElsewhere,
 }
 
-const STALE: [Stale; 7] = [
+const STALE: [Stale; 9] = [
     Stale::Not,
     Stale::OwnSetAlone,
     Stale::GlobalSetAlone,
     Stale::BothSets,
     Stale::SectionAlone,
     Stale::NgAlone,
+    Stale::XnAlone { section: false },
+    Stale::XnAlone { section: true },
     Stale::LoadedElsewhere,
 ];
 
@@ -183,6 +221,12 @@ fn kinds(others: &[Held], present: Option<Entry>, context: u32) -> Vec<Stale> {
         (Stale::SectionAlone, all(is_split)),
         (Stale::NgAlone, all(is_turned)),
         (
+            Stale::XnAlone {
+                section: present.is_some_and(|p| p.section),
+            },
+            all(is_xn_changed),
+        ),
+        (
             Stale::LoadedElsewhere,
             others.iter().all(|h| h.context != context),
         ),
@@ -195,7 +239,7 @@ fn kinds(others: &[Held], present: Option<Entry>, context: u32) -> Vec<Stale> {
 #[test]
 fn stale_is_what_a_tlb_can_reach() {
     let mut seen = Tally::new();
-    for (case, mut random) in cases(250) {
+    for (case, mut random) in cases(400) {
         let image = generate::image(&mut random);
         let root = *random.pick(&generate::ROOTS);
         let mut machine = start(&image, root);
@@ -207,23 +251,26 @@ fn stale_is_what_a_tlb_can_reach() {
             told.push((*o, matches!(answer, Answer::Refused(_))));
         }
         for page in PAGES {
-            let read = Operation {
-                kind: Kind::Read,
-                a: page << 12,
-                b: 4,
-                c: 0,
-            };
-            let present = machine.outcome(read.a).ok();
+            let at = page << 12;
+            let present = machine.outcome(at).ok();
             let mut others = reachable(&image, root, &told, page);
             others.retain(|held| Some(held.entry) != present);
             let could = !others.is_empty();
-            let refused = machine.clone().step(&read) == Answer::Refused(16);
-            if could != refused {
-                let what = format!("page {page:#x}: a TLB could: {could}, refused: {refused}");
-                fail(case, &image, &list, &what);
+            for kind in ACCESSES {
+                let access = Operation {
+                    kind,
+                    a: at,
+                    b: 4,
+                    c: 0,
+                };
+                let refused = machine.clone().step(&access) == Answer::Refused(16);
+                if could != refused {
+                    let what = format!("{access:x?}: a TLB could: {could}, refused: {refused}");
+                    fail(case, &image, &list, &what);
+                }
             }
             let scopes: BTreeSet<Scope> = others.iter().map(Held::scope).collect();
-            let sets: BTreeSet<Scope> = machine.stale_in(read.a).into_iter().collect();
+            let sets: BTreeSet<Scope> = machine.stale_in(at).into_iter().collect();
             if scopes != sets {
                 let what = format!("page {page:#x}: a TLB: {scopes:?}, the sets: {sets:?}");
                 fail(case, &image, &list, &what);
@@ -234,4 +281,37 @@ fn stale_is_what_a_tlb_can_reach() {
         }
     }
     seen.must_have("pages, stale by", STALE);
+}
+
+/// A chip fetches by the XN of the entry that it holds, and the plain machine by that of the tables:
+/// once XN alone has changed they differ, in the fetch and not in the read, and the checker refuses
+/// both. It still does when the old word is back, as a chip may by then hold the other entry.
+#[test]
+fn a_fetch_goes_by_the_xn_of_the_held_entry() {
+    let op = |kind, a, b, c| Operation { kind, a, b, c };
+    let (read, fetch) = (op(Kind::Read, 0x1000, 4, 0), op(Kind::Fetch, 0x1000, 0, 0));
+    let (word, stopped) = (
+        Answer::Ok(0x1234_5678),
+        Answer::Fault(fault::PERMISSION_PAGE),
+    );
+    for (old, new, held, walked) in [
+        (0x3832, 0x3833, word, stopped),
+        (0x3833, 0x3832, stopped, word),
+    ] {
+        let mut image = generate::image_a();
+        image[0x404..0x408].copy_from_slice(&u32::to_le_bytes(old));
+        let mut machine = start(&image, 0);
+        let mut plain = Plain::new(&image, 0);
+        let mut chip = Chip::new(&image, 0, 1);
+        chip.load(1);
+        for (stored, by_plain) in [(new, walked), (old, held)] {
+            let store = op(Kind::Write, 0x404, 4, stored);
+            let stores = [machine.step(&store), plain.step(&store), chip.step(&store)];
+            assert_eq!(stores, [Answer::Ok(0); 3]);
+            assert_eq!([plain.step(&read), chip.step(&read)], [word; 2]);
+            assert_eq!([plain.step(&fetch), chip.step(&fetch)], [by_plain, held]);
+            let refused = [read, fetch].map(|o| machine.step(&o));
+            assert_eq!(refused, [Answer::Refused(16); 2], "{stored:x}");
+        }
+    }
 }

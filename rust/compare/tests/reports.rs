@@ -7,6 +7,7 @@ use model::walk::fault;
 #[test]
 fn reports() {
     let mut seen = Tally::new();
+    let mut fetches = Tally::new();
     for (case, mut random) in cases(400) {
         let image = generate::image_file(&mut random);
         let memory = image.as_ref().map_or(0, Vec::len) as u32;
@@ -27,14 +28,21 @@ fn reports() {
         for line in expected.lines().skip(1) {
             let fields: Vec<&str> = line.split(',').collect();
             let number = if fields[2] == "ok" { "" } else { fields[3] };
-            seen.add((fields[2].to_string(), number.to_string()));
+            let answer = (fields[2].to_string(), number.to_string());
+            if fields[1] == "fetch" {
+                fetches.add(answer.clone());
+            }
+            seen.add(answer);
         }
     }
     let named = |word: &str, n: u32| (word.to_string(), format!("{n:x}"));
     let faults = fault::OF_WALKS.into_iter().chain(fault::OF_ACCESSES);
-    let faults = faults.map(|n| named("fault", n));
+    let faults: Vec<(String, String)> = faults.map(|n| named("fault", n)).collect();
     let refusals = (1..=16).filter(|n| *n != 14).map(|n| named("refused", n));
-    seen.must_have("reports", faults.chain(refusals));
+    seen.must_have("reports", faults.iter().cloned().chain(refusals));
+    let ok = ("ok".to_string(), String::new());
+    let others = [ok, named("refused", 8), named("refused", 16)];
+    fetches.must_have("fetches", faults.into_iter().chain(others));
 }
 
 /// What the program prints behind its header, which has to be what the model says.
@@ -237,6 +245,162 @@ fn a_section_split_and_joined_again() {
         "5,read,refused,10",
         "6,asid,ok,0",
         "7,read,ok,401",
+    ];
+    assert_eq!(found, expected);
+}
+
+/// Of each kind of mapping: where a word stands with XN clear and where with XN set, the XN, what they
+/// map to address 0x4000, and the permission fault.
+struct Mapping {
+    words: [(usize, u32); 2],
+    xn: u32,
+    addresses: [u32; 2],
+    fault: &'static str,
+}
+
+const MAPPINGS: [Mapping; 3] = [
+    Mapping {
+        words: [(0x404, 0x4832), (0x408, 0x4833)],
+        xn: 1,
+        addresses: [0x1000, 0x2000],
+        fault: "f",
+    },
+    Mapping {
+        words: [(0x450, 0x831), (0x490, 0x8831)],
+        xn: 1 << 15,
+        addresses: [0x1_4000, 0x2_4000],
+        fault: "f",
+    },
+    Mapping {
+        words: [(0x4, 0x2_0C02), (0x8, 0x2_0C12)],
+        xn: 1 << 4,
+        addresses: [0x10_4000, 0x20_4000],
+        fault: "d",
+    },
+];
+
+impl Mapping {
+    fn image(&self) -> Vec<u8> {
+        let rest = [(0x0, 0x401), (0x400, 0x832), (0x4000, 0x1122_3344)];
+        image(&[&rest, &self.words[..]].concat())
+    }
+}
+
+/// With XN set a page is read and written and not fetched from, in both modes. A word fetched is the
+/// word that a read gives and a store left.
+#[test]
+fn fetches_by_xn() {
+    for mapping in MAPPINGS {
+        let ([open, shut], fault) = (mapping.addresses, mapping.fault);
+        let found = lines(
+            &mapping.image(),
+            &format!(
+                "fetch,{open:x},0,0\nfetch,{shut:x},0,0\nread,{shut:x},4,0\n\
+                 write,{shut:x},4,5566\nfetch,{open:x},0,0\nmode,1,0,0\nfetch,{open:x},0,0\n\
+                 fetch,{shut:x},0,0\nread,{shut:x},4,0\nwrite,{shut:x},2,0\n"
+            ),
+        );
+        let expected = [
+            "2,fetch,ok,11223344".to_string(),
+            format!("3,fetch,fault,{fault}"),
+            "4,read,ok,11223344".to_string(),
+            "5,write,ok,0".to_string(),
+            "6,fetch,ok,5566".to_string(),
+            "7,mode,ok,0".to_string(),
+            "8,fetch,ok,5566".to_string(),
+            format!("9,fetch,fault,{fault}"),
+            "a,read,ok,5566".to_string(),
+            "b,write,ok,0".to_string(),
+        ];
+        assert_eq!(found, expected, "{open:x} and {shut:x}");
+    }
+}
+
+/// XN alone is set: the page is stale for reads and fetches alike in the context that noted the old
+/// entry, until a flush, and in no other. An unaligned fetch is fault 1 all the same.
+#[test]
+fn xn_alone_changed() {
+    for mapping in MAPPINGS {
+        let ([(at, old), _], [open, _]) = (mapping.words, mapping.addresses);
+        let (new, fault) = (old | mapping.xn, mapping.fault);
+        let found = lines(
+            &mapping.image(),
+            &format!(
+                "write,{at:x},4,{new:x}\nread,{open:x},4,0\nfetch,{open:x},0,0\n\
+                 fetch,{:x},0,0\nasid,1,0,0\nread,{open:x},4,0\nfetch,{open:x},0,0\n\
+                 asid,0,0,0\nread,{open:x},4,0\nctx,0,0,0\nread,{open:x},4,0\n\
+                 fetch,{open:x},0,0\n",
+                open + 2
+            ),
+        );
+        let expected = [
+            "2,write,ok,0".to_string(),
+            "3,read,refused,10".to_string(),
+            "4,fetch,refused,10".to_string(),
+            "5,fetch,fault,1".to_string(),
+            "6,asid,ok,0".to_string(),
+            "7,read,ok,11223344".to_string(),
+            format!("8,fetch,fault,{fault}"),
+            "9,asid,ok,0".to_string(),
+            "a,read,refused,10".to_string(),
+            "b,ctx,ok,0".to_string(),
+            "c,read,ok,11223344".to_string(),
+            format!("d,fetch,fault,{fault}"),
+        ];
+        assert_eq!(found, expected, "{old:x} to {new:x}");
+    }
+}
+
+/// XN alone is set and cleared again in context 1: both entries stand in its set, and context 0, which
+/// noted the first alone, trusts it.
+#[test]
+fn xn_set_and_cleared() {
+    for mapping in MAPPINGS {
+        let ([(at, old), _], [open, _]) = (mapping.words, mapping.addresses);
+        let found = lines(
+            &mapping.image(),
+            &format!(
+                "asid,1,0,0\nwrite,{at:x},4,{:x}\nwrite,{at:x},4,{old:x}\nfetch,{open:x},0,0\n\
+                 asid,0,0,0\nfetch,{open:x},0,0\n",
+                old | mapping.xn
+            ),
+        );
+        let expected = [
+            "2,asid,ok,0",
+            "3,write,ok,0",
+            "4,write,ok,0",
+            "5,fetch,refused,10",
+            "6,asid,ok,0",
+            "7,fetch,ok,11223344",
+        ];
+        assert_eq!(found, expected, "{old:x}");
+    }
+}
+
+/// A page of each AP that allows the kernel or the user to read, or nobody: fetches follow.
+#[test]
+fn fetches_by_ap() {
+    let tables = [(0x0, 0x401), (0x400, 0x812), (0x404, 0x4822)];
+    let pages = [(0x408, 0x4A32), (0x40C, 0x4802), (0x410, 0x4A12)];
+    let image = image(&[tables, pages].concat());
+    let fetches = "fetch,0,0,0\nfetch,1000,0,0\nfetch,2000,0,0\nfetch,3000,0,0\nfetch,4000,0,0\n";
+    let found = lines(
+        &image,
+        &format!("{fetches}mode,1,0,0\n{fetches}ctx,0,0,0\n"),
+    );
+    let expected = [
+        "2,fetch,ok,401",
+        "3,fetch,ok,0",
+        "4,fetch,ok,0",
+        "5,fetch,fault,f",
+        "6,fetch,ok,0",
+        "7,mode,ok,0",
+        "8,fetch,fault,f",
+        "9,fetch,ok,0",
+        "a,fetch,ok,0",
+        "b,fetch,fault,f",
+        "c,fetch,fault,f",
+        "d,ctx,refused,f",
     ];
     assert_eq!(found, expected);
 }

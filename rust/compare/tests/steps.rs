@@ -4,7 +4,11 @@ use compare::{cases, keep, Tally};
 use model::generate::{self, damaged, operation, operations, PAGES};
 use model::machine::{Answer, Kind, Machine, Operation, Registers};
 use model::random::Random;
-use model::walk::{fault, walk, word};
+use model::walk::{fault, walk, word, Entry, Fault};
+
+/// The bits of an entry of a section, and of one with XN set.
+const SECTION: u64 = 1 << 8;
+const XN: u64 = 1 << 6;
 
 fn number(answer: Answer) -> u64 {
     match answer {
@@ -33,16 +37,21 @@ fn spoil(random: &mut Random, track: &mut [u32]) {
         _ => random.below(rows as u64) as usize,
     };
     let at = row(random) * 1024 + page;
-    track[at] = match random.below(8) {
+    track[at] = match random.below(14) {
         0 => random.word(),
         1 => 1,
-        2 => random.word() & 0xFFFF_FF80 | 2,
+        2 => random.word() & 0xFFFF_FFC0 | 2,
         3 => *random.pick(&[3, 7, 0x80, 0x81, 0x83, 0xC2, 0x100, 0x106, 0x182, u32::MAX]),
+        4 => *random.pick(&[0x40, 0x41, 0x42, 0x43, 0x46, 0xC6, 0x142, 0x1C2]),
         // Of a page in place of a section, or the other way round.
-        4 => track[at] ^ 0x100,
+        5 => track[at] ^ 0x100,
         // Of the other kind of row.
-        5 => track[at] ^ 0x80,
-        6 => track[row(random) * 1024 + page],
+        6 => track[at] ^ 0x80,
+        // With XN the other way.
+        7 => track[at] ^ 0x40,
+        // With a bit that no entry has.
+        8..=9 => track[at] ^ 4 << random.below(4),
+        10..=12 => track[row(random) * 1024 + page],
         _ => 0,
     };
 }
@@ -60,7 +69,7 @@ fn lent(random: &mut Random) -> Lent {
         machine.step(&o);
     }
     let (mut memory, mut track) = (machine.memory.clone(), machine.track());
-    for _ in 0..random.below(40) {
+    for _ in 0..random.below(60) {
         spoil(random, &mut track);
     }
     let mut registers = Registers {
@@ -102,19 +111,43 @@ impl Lent {
         length.is_multiple_of(1024).then_some(length / 1024)
     }
 
+    fn outcome(&self, address: u32) -> Result<Entry, Fault> {
+        walk(&self.memory, self.registers.root, address)
+    }
+
+    /// The words that a page has in the row to which an entry belongs, of the current context's and
+    /// the global one, and in the other.
+    fn words_for(&self, page: u32, entry: Entry) -> (u32, u32) {
+        let of = |row: u32| self.track[(row * 1024 + page) as usize];
+        let (own, global) = (of(self.registers.context), of(self.contexts()));
+        if entry.global {
+            (global, own)
+        } else {
+            (own, global)
+        }
+    }
+
     /// Whether a page is stale only because the word of its present entry stands in a row of the
     /// other kind: in the current context's row, or in the global one.
     fn wrong_row(&self, page: u32) -> Option<Wrong> {
-        let present = walk(&self.memory, self.registers.root, page << 12).ok()?;
-        let of = |row: u32| self.track[(row * 1024 + page) as usize];
-        let (own, global) = (of(self.registers.context), of(self.contexts()));
-        let (found, other, wrong) = if present.global {
-            (own, global, Wrong::GlobalEntry)
+        let present = self.outcome(page << 12).ok()?;
+        let (here, other) = self.words_for(page, present);
+        let wrong = if present.global {
+            Wrong::GlobalEntry
         } else {
-            (global, own, Wrong::OwnEntry)
+            Wrong::OwnEntry
         };
-        let here = word(present);
-        (found == here && (other == here || other == 0)).then_some(wrong)
+        let sole = word(present);
+        (other == sole && (here == sole || here == 0)).then_some(wrong)
+    }
+
+    /// The bit in which the word that makes a page stale differs from that of its present entry, if
+    /// it is one alone.
+    fn other_bit(&self, page: u32) -> Option<u32> {
+        let present = self.outcome(page << 12).ok()?;
+        let (here, other) = self.words_for(page, present);
+        let differ = here ^ word(present);
+        (other == 0 && differ.is_power_of_two()).then(|| differ.trailing_zeros())
     }
 }
 
@@ -133,31 +166,42 @@ fn operation_words(o: &Operation) -> [u32; 4] {
     [o.kind as u32, o.a, o.b, o.c]
 }
 
+/// What a step by the C function answers, and the registers, the memory and the track that it
+/// leaves.
+type Left = (u64, [u32; 3], Vec<u8>, Vec<u32>);
+
+/// The step of a lent state by the C function.
+fn stepped(lent: &Lent, operation: [u32; 4]) -> Left {
+    let mut registers = words(lent.registers);
+    let (mut memory, mut track) = (lent.memory.clone(), lent.track.clone());
+    let answer = calls::step(&operation, &mut registers, &mut memory, &mut track);
+    (answer, registers, memory, track)
+}
+
+fn fail(name: &str, case: u64, lent: &Lent, what: &str) -> ! {
+    let track: Vec<u8> = lent.track.iter().flat_map(|w| w.to_le_bytes()).collect();
+    let folder = keep(name, case, &[("memory", &lent.memory), ("track", &track)]);
+    panic!(
+        "{what}, with {:x?}; memory and track are in {}",
+        lent.registers,
+        folder.display()
+    );
+}
+
 /// Compares one step, and returns the answer.
 fn compare(case: u64, lent: &Lent, o: &Operation) -> Answer {
     let mut machine = lent.machine();
     let expected = machine.step(o);
-    let mut registers = words(lent.registers);
-    let (mut memory, mut track) = (lent.memory.clone(), lent.track.clone());
-    let found = calls::step(&operation_words(o), &mut registers, &mut memory, &mut track);
-    let same = found == number(expected)
-        && registers == words(machine.registers)
-        && memory == machine.memory
-        && track == machine.track();
-    if !same {
-        let track: Vec<u8> = lent.track.iter().flat_map(|w| w.to_le_bytes()).collect();
-        let folder = keep("step", case, &[("memory", &lent.memory), ("track", &track)]);
-        panic!(
-            "{o:x?} with {:x?}: the model {expected:x?}, the code {found:#x}; memory and track \
-             are in {}",
-            lent.registers,
-            folder.display()
-        );
+    let (registers, track) = (words(machine.registers), machine.track());
+    let found = stepped(lent, operation_words(o));
+    if found != (number(expected), registers, machine.memory, track) {
+        let what = format!("{o:x?}: the model {expected:x?}, the code {:#x}", found.0);
+        fail("step", case, lent, &what);
     }
     expected
 }
 
-/// What steps were tried at the edges of the rules about rows.
+/// What steps were tried at the edges of the rules about rows and their words.
 #[derive(Default)]
 struct Edges {
     /// The rows of a track, if they are whole, and whether the step gave 13.
@@ -167,6 +211,8 @@ struct Edges {
     contexts: Tally<(u32, u32)>,
     /// Aligned accesses refused for a word in a row of the other kind.
     wrong: Tally<Wrong>,
+    /// Aligned accesses refused for a word that differs from the right one in one bit.
+    bits: Tally<u32>,
 }
 
 impl Edges {
@@ -189,6 +235,9 @@ impl Edges {
                 if let Some(wrong) = lent.wrong_row(o.a >> 12) {
                     self.wrong.add(wrong);
                 }
+                if let Some(bit) = lent.other_bit(o.a >> 12) {
+                    self.bits.add(bit);
+                }
             }
             _ => (),
         }
@@ -205,6 +254,9 @@ impl Edges {
         let wrong = [Wrong::GlobalEntry, Wrong::OwnEntry];
         self.wrong
             .must_have("words in a row of the other kind", wrong);
+        // XN, where a section maps it, and the bits that no entry has.
+        self.bits
+            .must_have("words that differ in one bit", [6, 8, 2, 3, 4, 5]);
     }
 }
 
@@ -213,6 +265,7 @@ fn single_steps_on_lent_states() {
     let mut seen = Tally::new();
     let mut pairs = Tally::new();
     let mut edges = Edges::default();
+    let mut fetches = Tally::new();
     for (case, mut random) in cases(1_500) {
         let lent = lent(&mut random);
         let machine = lent.machine();
@@ -225,10 +278,15 @@ fn single_steps_on_lent_states() {
             }
             let answer = compare(case, &lent, &o);
             edges.add(&lent, &o, answer);
-            seen.add(match answer {
+            let kept = match answer {
                 Answer::Ok(_) => Answer::Ok(0),
                 other => other,
-            });
+            };
+            seen.add(kept);
+            if o.kind == Kind::Fetch {
+                fetches.add((None, kept));
+                fetches.add((Some(lent.registers.mode), kept));
+            }
             let failing = machine.conditions(&o);
             for (i, first) in failing.iter().enumerate() {
                 for second in &failing[i + 1..] {
@@ -252,6 +310,60 @@ fn single_steps_on_lent_states() {
     ];
     pairs.must_have("pairs of checks failing at once", common);
     edges.must_have();
+    let faults = fault::OF_WALKS.into_iter().chain(fault::OF_ACCESSES);
+    let refused = [13, 14, 8, 16].map(Answer::Refused);
+    let answers = faults.map(Answer::Fault).chain(refused);
+    let each = answers.map(|answer| (None, answer));
+    let stopped = [fault::ALIGNMENT, fault::PERMISSION_PAGE].map(Answer::Fault);
+    let in_mode = |mode| {
+        let answers = [Answer::Ok(0)].into_iter().chain(stopped).chain(refused);
+        answers.map(move |answer| (Some(mode), answer))
+    };
+    let fetched = each.chain(in_mode(0)).chain(in_mode(1));
+    fetches.must_have("fetches, by mode", fetched);
+}
+
+/// A fetch leaves what a read of four bytes leaves, and answers the same unless the page's entry has
+/// XN set: then an aligned one that is not refused is a permission fault. The single walk tells XN
+/// and whether it is a section's, so this holds of the code by itself.
+#[test]
+fn a_fetch_is_a_read_but_for_xn() {
+    let faulted = |n: u32| number(Answer::Fault(n));
+    let mut seen = Tally::new();
+    for (case, mut random) in cases(800) {
+        let lent = lent(&mut random);
+        for _ in 0..6 {
+            let page = *random.pick(&PAGES);
+            let at = match random.below(8) {
+                0 => random.word(),
+                1 => page << 12 | (random.word() & 0xFFF),
+                _ => page << 12 | (random.word() & 0xFFC),
+            };
+            let (read, registers, memory, track) = stepped(&lent, [Kind::Read as u32, at, 4, 0]);
+            let entry = calls::walk(&lent.memory, lent.registers.root, at);
+            let refused = read >> 32 == 2;
+            let stopped = entry & XN != 0 && !refused && read != faulted(fault::ALIGNMENT);
+            let answer = match (stopped, entry & SECTION) {
+                (false, _) => read,
+                (true, 0) => faulted(fault::PERMISSION_PAGE),
+                (true, _) => faulted(fault::PERMISSION_SECTION),
+            };
+            let unused = [random.word(), random.word()];
+            let fetch = stepped(&lent, [Kind::Fetch as u32, at, unused[0], unused[1]]);
+            if fetch != (answer, registers, memory, track) {
+                let answers = format!("a read {read:#x}, a fetch {:#x}", fetch.0);
+                let what = format!("address {at:#x}: {answers}, the walk {entry:#x}");
+                fail("fetch", case, &lent, &what);
+            }
+            seen.add((stopped, read >> 32, entry & SECTION != 0));
+        }
+    }
+    let each = [(false, 0), (false, 1), (false, 2), (true, 0), (true, 1)];
+    let by = |section| each.map(|(stopped, read)| (stopped, read, section));
+    seen.must_have(
+        "stopped by XN, read, section",
+        [by(false), by(true)].concat(),
+    );
 }
 
 #[test]

@@ -4,9 +4,10 @@ use model::generate;
 use model::random::Random;
 use model::walk::{fault, single_walk};
 
-/// The bits of an entry of a section, and of a global one.
+/// The bits of an entry of a section, of a global one, and of one with XN set.
 const SECTION: u32 = 1 << 8;
 const GLOBAL: u32 = 1 << 7;
+const XN: u32 = 1 << 6;
 
 /// An image of a length that fits or does not, with descriptors that lead in and out of memory.
 fn image(random: &mut Random) -> Vec<u8> {
@@ -50,14 +51,39 @@ fn walks() {
             }
             let number = found as u32;
             seen.add(match found >> 32 {
-                0 => (0, number & (SECTION | GLOBAL)),
+                0 => (0, number & (SECTION | GLOBAL | XN)),
                 other => (other, number),
             });
         }
     }
     let faults = fault::OF_WALKS.map(|n| (1, n));
     let refusals = [13, 10, 8].map(|n| (2, n));
-    let entries = [0, SECTION, GLOBAL, SECTION | GLOBAL].map(|bits| (0, bits));
-    let all = entries.into_iter().chain(faults).chain(refusals);
+    let entries = [0, SECTION, GLOBAL, SECTION | GLOBAL].map(|bits| [(0, bits), (0, bits | XN)]);
+    let all = entries.concat().into_iter().chain(faults).chain(refusals);
     seen.must_have("walks", all);
+}
+
+/// XN is bit 4 of a section, bit 15 of a large page, bit 0 of a small one, and no other: each bit of a
+/// word is changed by itself, of those that leave its kind.
+#[test]
+fn xn_of_each_kind_of_descriptor() {
+    // Where the word stands and what it maps, the word, its XN, and the bits that tell its kind.
+    let kinds = [
+        (0x4, 0x10_0000, 0x0030_0C02_u32, 4, 1 << 18 | 3),
+        (0x400, 0x0, 0x0002_0031, 15, 3),
+        (0x400, 0x0, 0x0000_3032, 0, 2),
+    ];
+    for (at, address, clear, xn, kind) in kinds {
+        for word in [clear, clear | 1 << xn] {
+            for bit in (0..32).filter(|bit| kind & 1 << bit == 0) {
+                let changed = word ^ 1 << bit;
+                let mut image = generate::image_a();
+                image[at..at + 4].copy_from_slice(&changed.to_le_bytes());
+                let found = calls::walk(&image, 0, address);
+                assert_eq!(found, single_walk(&image, 0, address), "{changed:x}");
+                let set = (found >> 32, found as u32 & XN != 0);
+                assert_eq!(set, (0, changed >> xn & 1 == 1), "{changed:x}");
+            }
+        }
+    }
 }

@@ -1,5 +1,5 @@
 //! Images and lists on which maps change often: stores to descriptors, pages that turn from own to
-//! global and back, roots and contexts switched, flushes of each kind.
+//! global and back, XN set and cleared, roots and contexts switched, flushes of each kind.
 use crate::machine::{Kind, Operation, KINDS};
 use crate::random::Random;
 
@@ -21,22 +21,46 @@ pub fn image_a() -> Vec<u8> {
 /// The bytes of memory in which the generated tables lie: a page of roots, then tables.
 const TABLES: u32 = 0x2000;
 
+/// The most bytes that a generated image has.
+const MOST: u32 = 0x8000;
+
 /// nG of a section, and of a page.
 const NG_SECTION: u32 = 1 << 17;
 const NG_PAGE: u32 = 1 << 11;
 
-/// Level-one words that map a MiB to the same frames with the same rights: by a section at 0, AP 3,
-/// own or global, or page by page by a table of generated images, whose even pages are own and
-/// whose odd ones are global.
-const MIB: [u32; 3] = [0xC02 | NG_SECTION, 0xC02, EQUAL_PAGES | 1];
+/// XN of a section, of a large page, and of a small one.
+const XN_SECTION: u32 = 1 << 4;
+const XN_LARGE: u32 = 1 << 15;
+const XN_SMALL: u32 = 1;
+
+/// A section at 0, AP 3, which is global and may be fetched from.
+const SECTION: u32 = 0xC02;
+
+/// A table of generated images that maps a MiB as such sections do, page by page: its even pages are
+/// own and its odd ones global, and two in four have XN set.
 const EQUAL_PAGES: u32 = 0x1C00;
 
 /// The pages that generated lists touch.
 pub const PAGES: [u32; 12] = [0, 1, 2, 3, 4, 16, 17, 256, 257, 300, 512, 1023];
 
-/// A level-one word: mostly one that maps something.
+/// A level-one word that maps a MiB to the frames at 0 with AP 3: a section, own or global, with XN
+/// clear or set, or the table of equal pages.
+fn mib(random: &mut Random) -> u32 {
+    let xn = if random.one_in(3) { XN_SECTION } else { 0 };
+    match random.below(3) {
+        0 => SECTION | NG_SECTION | xn,
+        1 => SECTION | xn,
+        _ => EQUAL_PAGES | 1,
+    }
+}
+
+/// A level-one word: mostly one that maps something, now and then by a table behind all memory.
 fn first(random: &mut Random) -> u32 {
-    let table = 0x400 * (1 + random.below(u64::from(TABLES / 0x400) - 1)) as u32;
+    let table = if random.one_in(16) {
+        MOST
+    } else {
+        0x400 * (1 + random.below(u64::from(TABLES / 0x400) - 1)) as u32
+    };
     match random.below(8) {
         0..=4 => table | 1 | (random.word() & 0x3FC),
         5 => (random.word() & 0x000F_FFFF & !0x4_0000) | 2,
@@ -45,14 +69,15 @@ fn first(random: &mut Random) -> u32 {
     }
 }
 
-/// A level-two word: mostly a small page in memory or near its end, own or global.
+/// A level-two word: mostly a small page in memory or near its end, own or global, with XN clear or
+/// set.
 fn second(random: &mut Random, memory: u32) -> u32 {
     let frame = random.below(u64::from(memory / 4096) + 1) as u32;
     let rights = (random.word() & 0x230) | if random.one_in(4) { 0 } else { 0x30 };
     let rest = rights | (random.word() & NG_PAGE);
     match random.below(10) {
-        0..=6 => frame << 12 | rest | 2 | (random.word() & 1),
-        7 => (random.word() & 0x1_0000) | rest | 1,
+        0..=6 => frame << 12 | rest | 2 | (random.word() & XN_SMALL),
+        7 => (random.word() & (0x1_0000 | XN_LARGE)) | rest | 1,
         8 => random.word(),
         _ => 0,
     }
@@ -85,12 +110,19 @@ pub fn image(random: &mut Random) -> Vec<u8> {
         put(root, 0x401 | (root & 0x80) << 5);
     }
     for table in [0x400, 0x400 + 0x1000] {
-        put(table, 0x032 | random.word() & NG_PAGE);
-        put(table + 4, 0x1032 | random.word() & NG_PAGE);
+        put(table, 0x032 | random.word() & (NG_PAGE | XN_SMALL));
+        put(table + 4, 0x1032 | random.word() & (NG_PAGE | XN_SMALL));
+        // Pages 16 and 17 are often of large pages, each by a word of its own.
+        if random.one_in(2) {
+            for at in [table + 0x40, table + 0x44] {
+                put(at, 0x031 | random.word() & (NG_PAGE | XN_LARGE));
+            }
+        }
     }
     for page in 0..256 {
-        let kind = if page % 2 == 0 { NG_PAGE } else { 0 };
-        put(EQUAL_PAGES + 4 * page, page << 12 | 0x032 | kind);
+        let ng = if page % 2 == 0 { NG_PAGE } else { 0 };
+        let xn = if page % 4 < 2 { 0 } else { XN_SMALL };
+        put(EQUAL_PAGES + 4 * page, page << 12 | 0x032 | ng | xn);
     }
     bytes
 }
@@ -109,7 +141,7 @@ pub fn operation(random: &mut Random, contexts: u32, memory: u32) -> Operation {
     let context = random.below(u64::from(contexts)) as u32;
     let size = *random.pick(&[1, 2, 4, 4, 4, 4]);
     let aligned = at / size * size;
-    match random.below(24) {
+    match random.below(30) {
         0..=4 => op(Kind::Read, aligned, size, 0),
         5 => op(Kind::Read, at, size, 0),
         6..=7 => {
@@ -124,12 +156,34 @@ pub fn operation(random: &mut Random, contexts: u32, memory: u32) -> Operation {
         14 => op(Kind::Asid, context, 0, 0),
         15 => op(Kind::Mode, u32::from(random.one_in(3)), 0, 0),
         16..=19 => flush(random, at, context),
-        // Splits a section into equal pages or joins them, or turns a section's pages.
+        20..=23 => op(Kind::Fetch, at & !3, 0, 0),
+        24 => op(Kind::Fetch, at, 0, 0),
+        25 => xn_store(random),
+        // Splits a section into equal pages or joins them, turns a section's pages, or changes their
+        // XN.
         _ => {
             let at = *random.pick(&ROOTS) + *random.pick(&[4, 4, 8, 0xC]);
-            op(Kind::Write, at, 4, *random.pick(&MIB))
+            op(Kind::Write, at, 4, mib(random))
         }
     }
+}
+
+/// A store of one byte that may change XN alone: of a section of these lists, of a small page with
+/// AP 3, or of a large one whose other bits in that byte are clear but for nG.
+fn xn_store(random: &mut Random) -> Operation {
+    let any = random.word();
+    let (at, byte) = match random.below(3) {
+        0 => {
+            let at = *random.pick(&ROOTS) + *random.pick(&[4, 8, 0xC]);
+            (at, SECTION & 0xFF | any & XN_SECTION)
+        }
+        1 => (*random.pick(&[0x404, 0x408, 0x1408]), 0x32 | any & XN_SMALL),
+        _ => (
+            *random.pick(&[0x441, 0x445, 0x1441]),
+            (any & (XN_LARGE | NG_PAGE)) >> 8,
+        ),
+    };
+    op(Kind::Write, at, 1, byte)
 }
 
 /// A flush that names everything, this page, this context or both.
@@ -142,27 +196,41 @@ fn flush(random: &mut Random, at: u32, context: u32) -> Operation {
     }
 }
 
-/// A level-two word of page 2: none, or one of two frames, own or global.
+/// A level-two word of page 2: none, or one of two frames, own or global, with XN clear or set.
 fn second_of_page_2(random: &mut Random) -> u32 {
     let frame = *random.pick(&[2, 3]);
     match random.below(5) {
         0 => 0,
-        n => frame << 12 | 0x032 | if n % 2 == 0 { NG_PAGE } else { 0 },
+        _ => frame << 12 | 0x032 | (random.word() & (NG_PAGE | XN_SMALL)),
     }
 }
 
-/// A page mapped and mapped anew, then read: between these steps the context may change, and the
-/// page, a context or both may be flushed. Page 2 by its level-two word, or a page of the second
-/// MiB by its level-one word.
+/// A page mapped and mapped anew, or only its XN changed, then read or fetched from: between these
+/// steps the context may change, and the page, a context or both may be flushed. Page 2 by its
+/// level-two word, or a page of the second MiB by its level-one word.
 fn turn(random: &mut Random, contexts: u32) -> Vec<Operation> {
     let by_table = random.one_in(2);
-    let (page, at) = if by_table {
-        (2, *random.pick(&[0x408, 0x408, 0x1408]))
+    let (page, at, xn) = if by_table {
+        (2, *random.pick(&[0x408, 0x408, 0x1408]), XN_SMALL)
     } else {
-        (256 + random.below(2) as u32, 4 + *random.pick(&ROOTS))
+        let page = 256 + random.below(2) as u32;
+        (page, 4 + *random.pick(&ROOTS), XN_SECTION)
     };
+    let map = if by_table { second_of_page_2 } else { mib };
+    let first = map(random);
+    let anew = if random.one_in(4) {
+        first ^ xn
+    } else {
+        map(random)
+    };
+    let last = if random.one_in(2) {
+        op(Kind::Fetch, page << 12, 0, 0)
+    } else {
+        op(Kind::Read, page << 12, 4, 0)
+    };
+    let store = |word| op(Kind::Write, at, 4, word);
     let mut list = Vec::new();
-    for step in 0..3 {
+    for (step, o) in [store(first), store(anew), last].into_iter().enumerate() {
         if step > 0 && random.one_in(2) {
             let context = random.below(u64::from(contexts)) as u32;
             list.push(flush(random, page << 12, context));
@@ -171,11 +239,7 @@ fn turn(random: &mut Random, contexts: u32) -> Vec<Operation> {
             let context = random.below(u64::from(contexts)) as u32;
             list.push(op(Kind::Asid, context, 0, 0));
         }
-        list.push(match (step, by_table) {
-            (2, _) => op(Kind::Read, page << 12, 4, 0),
-            (_, true) => op(Kind::Write, at, 4, second_of_page_2(random)),
-            (_, false) => op(Kind::Write, at, 4, *random.pick(&MIB)),
-        });
+        list.push(o);
     }
     list
 }
@@ -201,6 +265,9 @@ pub fn damaged(random: &mut Random, contexts: u32, mut o: Operation) -> Operatio
         1 => o.b = *random.pick(&[0, 3, 5, 8, contexts, contexts + 1, u32::MAX]),
         2 => o.c = random.word(),
         3 => o.a = *random.pick(&[0x3F_FFFF, 0x40_0000, contexts, 1, 2, 0x40, u32::MAX]),
+        4 if o.kind == Kind::Fetch => o.a = *random.pick(&[0x3F_FFFC, 0x40_0000, 0x40_0001]),
+        // Behind all memory.
+        4..=5 if o.kind == Kind::Root => o.a = MOST,
         _ => (),
     }
     o
@@ -214,6 +281,21 @@ pub fn text(operations: &[Operation]) -> Vec<u8> {
         list.push_str(&format!("{name},{:x},{:x},{:x}\n", o.a, o.b, o.c));
     }
     list.into_bytes()
+}
+
+/// Names that are nearly that of an operation.
+const NEAR_NAMES: [&str; 6] = ["fetc", "fetchx", "Fetch", " fetch", "etch", "fetch\0"];
+
+/// Puts such a name in place of one in a list, behind the line of names.
+fn rename(random: &mut Random, list: &mut Vec<u8>) {
+    let starts: Vec<usize> = (1..list.len()).filter(|i| list[i - 1] == b'\n').collect();
+    if starts.is_empty() {
+        return;
+    }
+    let line = &list[*random.pick(&starts)..];
+    let start = list.len() - line.len();
+    let name = line.iter().take_while(|b| **b != b',').count();
+    list.splice(start..start + name, random.pick(&NEAR_NAMES).bytes());
 }
 
 /// A list for the program, which has 8 contexts, and sometimes something wrong with its bytes.
@@ -234,13 +316,14 @@ pub fn list(random: &mut Random, memory: u32) -> Vec<u8> {
     // The line of names has 9 bytes.
     let within = if random.one_in(6) { 9 } else { bytes.len() };
     let at = random.below(within as u64) as usize;
-    match random.below(16) {
+    match random.below(17) {
         0 => bytes[at] = random.word() as u8,
         1 => bytes[at] = *random.pick(b",\n0Aafgx-+ "),
         2 => bytes.insert(at, *random.pick(b",\n0Aaf1")),
         3 => bytes.truncate(at),
         4 => drop(bytes.remove(at)),
         5 => bytes.resize(65_537 + random.below(3) as usize, b'\n'),
+        6 => rename(random, &mut bytes),
         _ => (),
     }
     bytes

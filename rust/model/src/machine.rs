@@ -13,10 +13,11 @@ pub enum Kind {
     Addr,
     Ctx,
     AddrCtx,
+    Fetch,
 }
 
 /// The operations in the order of the rules, with their names and how many fields each uses.
-pub const KINDS: [(Kind, &str, usize); 9] = [
+pub const KINDS: [(Kind, &str, usize); 10] = [
     (Kind::Read, "read", 2),
     (Kind::Write, "write", 3),
     (Kind::Root, "root", 1),
@@ -26,6 +27,7 @@ pub const KINDS: [(Kind, &str, usize); 9] = [
     (Kind::Addr, "addr", 1),
     (Kind::Ctx, "ctx", 1),
     (Kind::AddrCtx, "addrctx", 2),
+    (Kind::Fetch, "fetch", 1),
 ];
 
 #[derive(Clone, Copy, PartialEq, Eq, Debug)]
@@ -38,11 +40,25 @@ pub struct Operation {
 
 impl Operation {
     pub fn is_access(&self) -> bool {
-        matches!(self.kind, Kind::Read | Kind::Write)
+        matches!(self.kind, Kind::Read | Kind::Write | Kind::Fetch)
+    }
+
+    /// How many bytes an access asks for: a fetch for four, whatever its b.
+    pub fn size(&self) -> u32 {
+        if self.kind == Kind::Fetch {
+            4
+        } else {
+            self.b
+        }
+    }
+
+    /// Whether the size is one that an access may have.
+    fn is_sized(&self) -> bool {
+        matches!(self.size(), 1 | 2 | 4)
     }
 
     pub fn is_aligned(&self) -> bool {
-        matches!(self.b, 1 | 2 | 4) && self.a.is_multiple_of(self.b)
+        self.is_sized() && self.a.is_multiple_of(self.size())
     }
 }
 
@@ -87,7 +103,7 @@ pub fn effect(
         Kind::Root => registers.root = operation.a,
         Kind::Asid => registers.context = operation.a,
         Kind::Mode => registers.mode = operation.a,
-        Kind::Read | Kind::Write => {
+        Kind::Read | Kind::Write | Kind::Fetch => {
             return match access(memory, registers.mode, operation, outcome) {
                 Ok(value) => Answer::Ok(value),
                 Err(fault) => Answer::Fault(fault),
@@ -110,7 +126,8 @@ fn access(
     let entry = outcome?;
     let writes = operation.kind == Kind::Write;
     let right = if writes { "w" } else { "r" };
-    if !RIGHTS[entry.ap as usize][mode as usize].contains(right) {
+    let stopped_by_xn = operation.kind == Kind::Fetch && entry.xn;
+    if stopped_by_xn || !RIGHTS[entry.ap as usize][mode as usize].contains(right) {
         return Err(if entry.section {
             fault::PERMISSION_SECTION
         } else {
@@ -118,7 +135,7 @@ fn access(
         });
     }
     let at = u64::from(entry.frame) << 12 | u64::from(operation.a & 0xFFF);
-    let size = operation.b as usize;
+    let size = operation.size() as usize;
     let value = number(memory, at, size).ok_or(fault::ACCESS_OUTSIDE)?;
     if !writes {
         return Ok(value);
@@ -314,7 +331,7 @@ impl Machine {
         [
             (13, !self.lengths_fit()),
             (14, !held),
-            (7, access && !matches!(b, 1 | 2 | 4)),
+            (7, access && !operation.is_sized()),
             (8, (access || flush_address) && a >= 0x40_0000),
             (9, kind == Kind::Write && large),
             (10, kind == Kind::Root && !a.is_multiple_of(0x80)),
@@ -334,9 +351,10 @@ impl Machine {
         if operation.is_access() && operation.is_aligned() && self.is_stale(operation.a) {
             return Answer::Refused(16);
         }
-        let outcome = match operation.kind {
-            Kind::Read | Kind::Write => self.outcome(operation.a),
-            _ => NOT_TRANSLATED,
+        let outcome = if operation.is_access() {
+            self.outcome(operation.a)
+        } else {
+            NOT_TRANSLATED
         };
         let answer = effect(&mut self.memory, &mut self.registers, operation, outcome);
         self.sets

@@ -12,6 +12,8 @@ pub struct Entry {
     pub section: bool,
     /// Whether nG is clear, so that it serves every context.
     pub global: bool,
+    /// Whether XN is set, so that nothing is fetched through it.
+    pub xn: bool,
 }
 
 /// Why an operation carried out gave no value: a short-descriptor fault status code.
@@ -52,6 +54,11 @@ fn bits(word: u32, range: RangeInclusive<u32>) -> u32 {
     (wide & ((1 << (high - low + 1)) - 1)) as u32
 }
 
+/// Whether a bit of a word is set.
+fn bit(word: u32, n: u32) -> bool {
+    bits(word, n..=n) == 1
+}
+
 /// The little-endian number of `size` bytes at a physical address, if they all lie in memory.
 pub fn number(memory: &[u8], at: u64, size: usize) -> Option<u32> {
     let at = usize::try_from(at).ok()?;
@@ -70,14 +77,15 @@ pub fn walk(memory: &[u8], root: u32, address: u32) -> Result<Entry, Fault> {
             let second = number(memory, at, 4).ok_or(fault::WALK_OUTSIDE_SECOND)?;
             page(second, address)
         }
-        2 if bits(first, 18..=18) == 0 => {
+        2 if !bit(first, 18) => {
             let physical = (first & 0xFFF0_0000) | (address & 0x000F_FFFF);
             let ap = bits(first, 15..=15) << 2 | bits(first, 10..=11);
             Ok(Entry {
                 frame: physical >> 12,
                 ap,
                 section: true,
-                global: bits(first, 17..=17) == 0,
+                global: !bit(first, 17),
+                xn: bit(first, 4),
             })
         }
         _ => Err(fault::UNMAPPED_FIRST),
@@ -85,23 +93,25 @@ pub fn walk(memory: &[u8], root: u32, address: u32) -> Result<Entry, Fault> {
 }
 
 fn page(second: u32, address: u32) -> Result<Entry, Fault> {
-    let physical = match bits(second, 0..=1) {
+    let (physical, xn) = match bits(second, 0..=1) {
         0 => return Err(fault::UNMAPPED_SECOND),
-        1 => (second & 0xFFFF_0000) | (address & 0xFFFF),
-        _ => (second & 0xFFFF_F000) | (address & 0xFFF),
+        1 => ((second & 0xFFFF_0000) | (address & 0xFFFF), bit(second, 15)),
+        _ => ((second & 0xFFFF_F000) | (address & 0xFFF), bit(second, 0)),
     };
     let ap = bits(second, 9..=9) << 2 | bits(second, 4..=5);
     Ok(Entry {
         frame: physical >> 12,
         ap,
         section: false,
-        global: bits(second, 11..=11) == 0,
+        global: !bit(second, 11),
+        xn,
     })
 }
 
 /// The track word of one entry.
 pub fn word(entry: Entry) -> u32 {
-    let flags = u32::from(entry.section) << 8 | u32::from(entry.global) << 7;
+    let flag = |set: bool, n: u32| u32::from(set) << n;
+    let flags = flag(entry.section, 8) | flag(entry.global, 7) | flag(entry.xn, 6);
     entry.frame << 12 | entry.ap << 9 | flags | 2
 }
 
@@ -110,8 +120,9 @@ pub fn entry_of(found: u32) -> Option<Entry> {
     let entry = Entry {
         frame: bits(found, 12..=31),
         ap: bits(found, 9..=11),
-        section: bits(found, 8..=8) == 1,
-        global: bits(found, 7..=7) == 1,
+        section: bit(found, 8),
+        global: bit(found, 7),
+        xn: bit(found, 6),
     };
     (word(entry) == found).then_some(entry)
 }

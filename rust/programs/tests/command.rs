@@ -89,6 +89,19 @@ fn refusals_are_explained() {
 }
 
 #[test]
+fn a_stale_fetch_is_explained() {
+    let fetch = "fetch,1000,0,0\n";
+    assert_eq!(of_list(&with_names(fetch)).0, 0);
+    let (status, report, error) = of_list(&with_names(&format!("write,404,4,3833\n{fetch}")));
+    let expected = format!("{HEADER}2,write,ok,0\n3,fetch,refused,10\n");
+    assert_eq!((status, report), (1, expected));
+    assert!(
+        error.contains("list:3: fetch,1000,0,0: refused: 16, "),
+        "{error}"
+    );
+}
+
+#[test]
 fn common_mistakes_are_named() {
     for (list, says) in [
         ("op,a,b,c\r\nall,0,0,0\r\n", "carriage return"),
@@ -96,6 +109,7 @@ fn common_mistakes_are_named() {
         ("\u{feff}op,a,b,c\n", "byte-order mark"),
         ("op,a,b,c\nread,ABC,4,0\n", "lower case"),
         ("op,a,b,c\nREAD,1000,4,0\n", "lower case"),
+        ("op,a,b,c\nFETCH,1000,0,0\n", "lower case"),
         ("\0\0\0\0", "swapped"),
     ] {
         let (status, _, error) = of_list(list);

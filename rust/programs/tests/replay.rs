@@ -77,6 +77,23 @@ fn an_own_page_unmapped() {
     assert_eq!(lines(&format!("{NAMES}{list}")), expected);
 }
 
+/// Fetches from image A, in and out of its map and at the end of the window; then XN of page 1 is
+/// set, which stops fetches and, until a flush, reads too; then user mode, which may not read page 0.
+#[test]
+fn fetches() {
+    let list = "fetch,1000,0,0\nfetch,1002,0,0\nfetch,2000,0,0\nfetch,3ffffc,0,0\n\
+                fetch,400000,0,0\nfetch,400001,0,0\nwrite,404,4,3833\nfetch,1000,0,0\n\
+                read,1000,4,0\nfetch,1001,0,0\naddrctx,1000,0,0\nfetch,1000,0,0\n\
+                read,1000,4,0\nfetch,400,0,0\nmode,1,0,0\nfetch,400,0,0\nfetch,1000,0,0\n\
+                read,1000,4,0\n";
+    let report = "2,fetch,ok,12345678\n3,fetch,fault,1\n4,fetch,fault,7\n5,fetch,fault,5\n\
+                  6,fetch,refused,8\n7,fetch,refused,8\n8,write,ok,0\n9,fetch,refused,10\n\
+                  a,read,refused,10\nb,fetch,fault,1\nc,addrctx,ok,0\nd,fetch,fault,f\n\
+                  e,read,ok,12345678\nf,fetch,ok,812\n10,mode,ok,0\n11,fetch,fault,f\n\
+                  12,fetch,fault,f\n13,read,ok,12345678\n";
+    assert_eq!(lines(&format!("{NAMES}{list}")), report);
+}
+
 #[test]
 fn the_empty_list_and_names_alone() {
     assert_eq!(lines(""), "1,-,refused,2\n");
@@ -135,6 +152,17 @@ fn each_list_refusal_ends_the_report() {
         ("read,1000,4,1", 6),
         ("all,1,0,0", 6),
         ("addrctx,1000,0,1", 6),
+        ("fetch,1000,0", 3),
+        ("fetch,1000,0,0,0", 3),
+        ("fetch,,0,0", 4),
+        ("fetch,1000,04,0", 4),
+        ("fetc,1000,0,0", 5),
+        ("fetchx,1000,0,0", 5),
+        ("Fetch,1000,0,0", 5),
+        ("fetch ,1000,0,0", 5),
+        ("addrctxfetch,1000,0,0", 5),
+        ("fetch,1000,4,0", 6),
+        ("fetch,1000,0,1", 6),
     ] {
         let list = format!("{NAMES}mode,0,0,0\n{line}\nmode,0,0,0\n");
         let report = format!("2,mode,ok,0\n3,-,refused,{number}\n");

@@ -4,7 +4,7 @@
 use std::fs;
 use std::io::{self, Read, Write};
 
-const NAMES: [(&str, usize); 9] = [
+const NAMES: [(&str, usize); 10] = [
     ("read", 2),
     ("write", 3),
     ("root", 1),
@@ -14,7 +14,11 @@ const NAMES: [(&str, usize); 9] = [
     ("addr", 1),
     ("ctx", 1),
     ("addrctx", 2),
+    ("fetch", 1),
 ];
+
+/// The place of `fetch` among them.
+const FETCH: usize = 9;
 
 /// What may be done by AP and mode: 0 nothing, 1 reading, 2 reading and writing.
 const RIGHTS: [[u32; 2]; 8] = [
@@ -61,6 +65,12 @@ const SECTION: u32 = 1 << 8;
 /// The bit of a track word that tells a global entry.
 const GLOBAL: u32 = 1 << 7;
 
+/// The bit of a track word that tells an entry through which nothing is fetched.
+const XN: u32 = 1 << 6;
+
+/// The bits that are alike in all words for one entry in a row.
+const OF_ROW: u32 = 0xFF & !XN;
+
 /// Whether a level-one word points to a table.
 fn is_table(first: u32) -> bool {
     first & 3 == 1
@@ -75,7 +85,8 @@ fn is_section(first: u32) -> bool {
 fn section(first: u32, page: usize) -> u32 {
     let ap = first >> 13 & 4 | first >> 10 & 3;
     let global = !first >> 10 & GLOBAL;
-    first & 0xFFF0_0000 | (page as u32 & 0xFF) << 12 | ap << 9 | SECTION | global | 2
+    let xn = first << 2 & XN;
+    first & 0xFFF0_0000 | (page as u32 & 0xFF) << 12 | ap << 9 | SECTION | global | xn | 2
 }
 
 /// The track word of a page by the table of a level-one word, or its fault.
@@ -83,11 +94,11 @@ fn by_table(memory: &[u8], first: u32, page: usize) -> Result<u32, u32> {
     let table = (first & !0x3FF) as usize;
     let second = load(memory, table + 4 * (page & 0xFF)).ok_or(0xE_u32)?;
     let ap = second >> 7 & 4 | second >> 4 & 3;
-    let global = !second >> 4 & GLOBAL;
+    let rest = ap << 9 | !second >> 4 & GLOBAL | 2;
     match second & 3 {
         0 => Err(7),
-        1 => Ok(second & 0xFFFF_0000 | (page as u32 & 0xF) << 12 | ap << 9 | global | 2),
-        _ => Ok(second & 0xFFFF_F000 | ap << 9 | global | 2),
+        1 => Ok(second & 0xFFFF_0000 | (page as u32 & 0xF) << 12 | second >> 9 & XN | rest),
+        _ => Ok(second & 0xFFFF_F000 | second << 6 & XN | rest),
     }
 }
 
@@ -109,7 +120,7 @@ fn add(own: &mut u32, global: &mut u32, entry: u32) {
     let word = if entry & GLOBAL == 0 { own } else { global };
     if *word == 0 {
         *word = entry;
-    } else if *word != entry && *word & 0xFF == entry & 0xFF {
+    } else if *word != entry && *word & OF_ROW == entry & OF_ROW {
         *word = 1;
     }
 }
@@ -153,8 +164,9 @@ impl Machine {
     }
 
     fn refused(&self, kind: usize, [a, b, c]: [u32; 3]) -> Option<u32> {
-        let access = kind < 2;
-        if access && b != 1 && b != 2 && b != 4 {
+        let sized = kind < 2;
+        let access = sized || kind == FETCH;
+        if sized && b != 1 && b != 2 && b != 4 {
             return Some(7);
         }
         if (access || kind == 6 || kind == 8) && a >= 0x40_0000 {
@@ -178,7 +190,7 @@ impl Machine {
         None
     }
 
-    fn access(&mut self, writes: bool, [a, size, value]: [u32; 3]) -> Answer {
+    fn access(&mut self, kind: usize, [a, size, value]: [u32; 3]) -> Answer {
         if !a.is_multiple_of(size) {
             return Answer::Fault(1);
         }
@@ -194,8 +206,9 @@ impl Machine {
             Ok(entry) => entry,
             Err(fault) => return Answer::Fault(fault),
         };
+        let writes = kind == 1;
         let rights = RIGHTS[(entry >> 9 & 7) as usize][self.mode as usize];
-        if rights < 1 + u32::from(writes) {
+        if rights < 1 + u32::from(writes) || kind == FETCH && entry & XN != 0 {
             let from_section = entry & SECTION != 0;
             return Answer::Fault(if from_section { 0xD } else { 0xF });
         }
@@ -219,7 +232,8 @@ impl Machine {
         let [a, b, _] = fields;
         let mut answer = Answer::Ok(0);
         match kind {
-            0 | 1 => answer = self.access(kind == 1, fields),
+            0 | 1 => answer = self.access(kind, fields),
+            FETCH => answer = self.access(kind, [a, 4, 0]),
             2 => self.root = a,
             3 => self.context = a,
             4 => self.mode = a,

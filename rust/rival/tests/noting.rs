@@ -4,17 +4,23 @@ use model::generate;
 use model::random::Random;
 use model::walk::{walk, word, Entry};
 
-/// The bit of a global entry.
+/// The bit of a global entry, and of one with XN set.
 const GLOBAL: u32 = 0x80;
+const XN: u32 = 0x40;
+
+/// The bits 5..2, which no entry has.
+const NONE: u32 = 0x3C;
 
 /// A word that a row may hold: none, an entry of that row, several entries, or what the page maps
-/// to if it belongs there.
+/// to if it belongs there, as it is, with XN the other way, or with a bit that no entry has.
 fn held(random: &mut Random, now: Option<u32>, bit: u32) -> u32 {
-    match random.below(4) {
+    match random.below(6) {
         0 => 0,
         1 => 1,
         2 => now.unwrap_or(0),
-        _ => random.word() & !0xFF | bit | 2,
+        3 => now.map_or(0, |entry| entry ^ XN),
+        4 => now.map_or(NONE, |entry| entry | 4 << random.below(4)),
+        _ => random.word() & !0xBF | bit | 2,
     }
 }
 
@@ -23,7 +29,7 @@ fn noted(held: u32, now: Option<u32>) -> u32 {
     match (held, now) {
         (_, None) => held,
         (0, Some(entry)) => entry,
-        (_, Some(entry)) if held == entry => held,
+        (_, Some(entry)) if held == entry || held & NONE != 0 => held,
         _ => 1,
     }
 }
@@ -42,6 +48,7 @@ fn row(random: &mut Random, now: &[Option<Entry>], global: bool) -> (Vec<u32>, V
 fn rows() {
     let mut outside = 0;
     let mut both = 0;
+    let mut xn = 0;
     for case in 0..400 {
         let mut random = Random::new(case);
         let mut image = generate::image(&mut random);
@@ -56,6 +63,7 @@ fn rows() {
             .collect();
         let has = |global| now.iter().flatten().any(|e| e.global == global);
         both += u32::from(has(false) && has(true));
+        xn += u32::from(now.iter().flatten().any(|e| e.xn));
         let (own, own_left) = row(&mut random, &now, false);
         let (global, global_left) = row(&mut random, &now, true);
         for (name, note) in [
@@ -73,4 +81,5 @@ fn rows() {
     }
     assert!(outside > 0, "no image ended in the middle of a table");
     assert!(both > 0, "no image mapped own and global pages");
+    assert!(xn > 0, "no image mapped a page with XN set");
 }

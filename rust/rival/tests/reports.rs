@@ -7,6 +7,7 @@ use model::random::Random;
 #[test]
 fn reports() {
     let (mut stale, mut turned_back) = (0, 0);
+    let (mut fetched, mut stopped) = (0, 0);
     for case in 0..400 {
         let mut random = Random::new(case);
         let image = generate::image_file(&mut random);
@@ -15,6 +16,8 @@ fn reports() {
         let expected = list::report(image.as_deref(), &text);
         stale += expected.matches("refused,10\n").count();
         turned_back += expected.matches(",-,refused").count();
+        fetched += expected.matches(",fetch,ok,").count();
+        stopped += expected.matches(",fetch,fault,").count();
         for note in [rival::by_page as rival::Note, rival::by_mib] {
             let found = rival::report(image.clone().unwrap_or_default(), &text, note);
             let found = String::from_utf8(found).expect("a report is ASCII");
@@ -23,4 +26,6 @@ fn reports() {
     }
     assert!(stale > 0, "no page was stale");
     assert!(turned_back > 0, "no list was turned back");
+    assert!(fetched > 0, "no word was fetched");
+    assert!(stopped > 0, "no fetch faulted");
 }
