@@ -21,9 +21,9 @@ enum {
     WUZHAMBEN_NO_MAPPING_2 = 0x7,         /* level two */
     WUZHAMBEN_ACCESS_OUTSIDE = 0x8,       /* bytes not in memory */
     WUZHAMBEN_WALK_OUTSIDE_1 = 0xc,       /* level-one word not in memory */
-    WUZHAMBEN_PERMISSION_SECTION = 0xd,
+    WUZHAMBEN_PERMISSION_SECTION = 0xd,   /* AP, or XN at a fetch */
     WUZHAMBEN_WALK_OUTSIDE_2 = 0xe,       /* level-two word not in memory */
-    WUZHAMBEN_PERMISSION_PAGE = 0xf
+    WUZHAMBEN_PERMISSION_PAGE = 0xf       /* the same */
 };
 
 /* The kinds of operation: the first of an operation's four words. The others are its fields a, b and c. */
@@ -36,12 +36,13 @@ enum {
     WUZHAMBEN_ALL,     /* flushes everything */
     WUZHAMBEN_ADDR,    /* flushes the page of a in every context, and its global entry */
     WUZHAMBEN_CTX,     /* flushes context a, but no global entry */
-    WUZHAMBEN_ADDRCTX  /* flushes the page of a in context b, and its global entry whatever b is */
+    WUZHAMBEN_ADDRCTX, /* flushes the page of a in context b, and its global entry whatever b is */
+    WUZHAMBEN_FETCH    /* a address: four bytes, where reading is allowed and XN is clear */
 };
 
 /* The walk of one virtual address through the tables at `root` in an image of 4,096 to 16,777,216 bytes (a multiple of 4,096). The
  * value is the entry's track word: frame in bits 31..12, AP in bits 11..9, bit 8 set for a section, bit 7 set where nG is clear (the
- * entry is global), bit 1 set. */
+ * entry is global), bit 6 set where XN is set, bit 1 set. */
 uint64_t walk_image(const uint8_t *image, size_t image_length, uint32_t root, uint32_t address);
 
 /* A start from `memory`, which is only read. It empties and notes `track`, which has 1,024 words for each of 1 to 256 contexts and 1,024
