@@ -43,9 +43,9 @@ unfoldable pub pageOf : Operation → Option ℕ
 pageOf o = cond (among (o .kind) accesses && aligned (o .a) (accessSize o)) (some (o .a / pageSize)) none
 
 -- the accesses of the third demand are those of the rules
-pub access-same : (o : Operation) → isAccess o ≡ among (o .kind) accesses
+pub accesses-same : (o : Operation) → isAccess o ≡ among (o .kind) accesses
 unfolding isAccess
-access-same o = refl
+accesses-same o = refl
 
 -- whether a size is 1, 2 or 4
 abbrev pub knownSize : ℕ → Bool
@@ -56,7 +56,7 @@ pub access-parts : (o : Operation) → alignedAccess o ≡ true → (among (o .k
 unfolding alignedAccess
 access-parts o p =
     let q = and-both (isAccess o && knownSize (accessSize o)) (aligned (o .a) (accessSize o)) p in
-    (sym (access-same o) ∙ and-both (isAccess o) (knownSize (accessSize o)) (q .0) .0, q .1)
+    (sym (accesses-same o) ∙ and-both (isAccess o) (knownSize (accessSize o)) (q .0) .0, q .1)
 
 -- the present outcome of a page, and an operation carried out with its pages translated by f
 unfoldable pub walkOf : State → ℕ → Walk Entry ℕ

@@ -25,7 +25,7 @@ use Rattle.model.specs.Types.{Registers, Operation, Kind, Read, Write, R
 use Rattle.model.proofs.BoolLaws.{and-both, three-or}
 use Rattle.model.proofs.Calls.{firstHolding, given-first, none-some, not-refused, exactly, start-exactly, start-words, track-length, start-track-length, size-passed, checksOf, Begun, begun as begunBy, back as turned, done as noted-then}
 use Rattle.model.proofs.Kept.{begins as fresh-begins, passes-checks, given-16}
-use Rattle.model.proofs.Instance.{stateOf, outcome-page, access-same, knownSize}
+use Rattle.model.proofs.Instance.{stateOf, outcome-page, accesses-same, knownSize}
 use Rattle.model.proofs.Chips.{held, load-brings}
 use Rattle.model.proofs.ThirdDemand.{holds-within}
 
@@ -485,7 +485,7 @@ aligned-16 x q =
     let all = and-both _ (stale (x .track) (x .registers .context) (x .operation .a / pageSize) (walk (x .memory) (x .registers .root) (x .operation .a))) (given-16 x pass .0 q) in
     let o : Operation = x .operation in
     let kinds = and-both (among (o .kind) accesses) (aligned (o .a) (accessSize o)) (all .0) in
-    ap₂ _&&_ (ap₂ _&&_ (access-same o ∙ kinds .0) (named-size (o .kind) (o .a) (o .b) (o .c) (kinds .0) (size-passed x pass))) (kinds .1)
+    ap₂ _&&_ (ap₂ _&&_ (accesses-same o ∙ kinds .0) (named-size (o .kind) (o .a) (o .b) (o .c) (kinds .0) (size-passed x pass))) (kinds .1)
 
 abbrev pub call : Operation → Registers → List ℕ → List ℕ → Call
 call o g i t = record { operation = o; registers = g; memory = i; track = t }

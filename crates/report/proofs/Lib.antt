@@ -1,4 +1,4 @@
--- Laws of the report.
+-- Laws of the report, and its settings.
 pub mod LinesLaws
 pub mod Running
 pub mod ReportLaws

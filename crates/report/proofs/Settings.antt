@@ -1,9 +1,9 @@
--- Cases computed on the report's definition, as one table of two parts: the program's settings (root 0, eight contexts, the image's limit),
--- and each refusal of a list.
+-- Cases computed on the report's definition: the program's settings (root 0, eight contexts, the image's limit), and what a report has of
+-- a list that is turned back. `report_cases` has the others.
 use Prim.Native.Nat.{ℕ}
 use Prim.Native.String.{String}
-use mathlib.Core.Path.{_≡_, refl, ap₂}
-use mathlib.Core.Bool.{Bool, true, false, cond, _&&_}
+use mathlib.Core.Path.{_≡_, refl}
+use mathlib.Core.Bool.{Bool, true, _&&_}
 use mathlib.Core.List.{List, [], _∷_, _++_}
 use lib.ListN.{replicate, take}
 use Rattle.text.specs.Split.{has, until, past, same}
@@ -11,8 +11,7 @@ use Rattle.text.specs.Hex.{digit, glyph, digits, number, lean, spelled, valueOf
 use Rattle.text.specs.Put.{over}
 use Rattle.text.specs.Quoted.{quotedFrom, quoted}
 use Rattle.model.specs.reference.Runs.{last, checkerRun}
-use Rattle.model.proofs.BoolLaws.{and-both}
-use Rattle.model.proofs.CaseTools.{put, imageA, next}
+use Rattle.model.proofs.CaseTools.{put, next}
 use Rattle.names.specs.Names.{namedIn}
 use Rattle.listing.specs.Line.{spare, zeros, opOf, judged, valuesOf, fieldA, fieldB, fieldC, fieldsOf, lineOf}
 use Rattle.listing.specs.Whole.{tooLong, hasNames, readLines, readList}
@@ -20,53 +19,34 @@ use Rattle.report_line.specs.Text.{reportLine}
 use Rattle.report.specs.Report.{imageLimit, trackLength, memoryLength, answerLines, answerText, bodyOf, reportOf}
 
 -- the report of an image file of n bytes with a list, on a track that held anything
-abbrev reportText : ℕ → List ℕ → List ℕ → List ℕ
+abbrev pub reportText : ℕ → List ℕ → List ℕ → List ℕ
 reportText n image list = reportOf (take (memoryLength n) image) (replicate trackLength 7) list .text
 
 -- the shortest image, all zero: what it maps doesn't matter
-abbrev reportOfList : List ℕ → List ℕ
+abbrev pub reportOfList : List ℕ → List ℕ
 reportOfList list = reportText 4096 (replicate 4096 0) list
 
 -- an image whose first MiB is a section at 0, AP 3, nG clear
-abbrev globalSection : List ℕ
+abbrev pub globalSection : List ℕ
 globalSection = put 0 0xC02 (replicate 4096 0)
 
 -- a list whose third line is turned back with this number: the line before it has been carried out, the one after it is not read
-abbrev turnedBack : String → String → List ℕ × List ℕ
+abbrev pub turnedBack : String → String → List ℕ × List ℕ
 turnedBack line number = (
   reportOfList (quoted "op,a,b,c\nmode,0,0,0\n" ++ (quoted line ++ quoted "\nmode,0,0,0\n")),
   quoted "line,op,answer,value\n2,mode,ok,0\n3,-,refused," ++ (quoted number ++ quoted "\n"),
 )
 
-abbrev allSame : List (List ℕ × List ℕ) → Bool
+-- whether each report is the expected one
+abbrev pub allSame : List (List ℕ × List ℕ) → Bool
 allSame [] = true
 allSame (x ∷ xs) = same (x .0) (x .1) && allSame xs
 
--- a table of two parts is computed part by part
-all-parts : (xs ys : List (List ℕ × List ℕ)) → allSame xs ≡ true → allSame ys ≡ true → allSame (xs ++ ys) ≡ true
-all-parts [] ys p q = q
-all-parts (x ∷ xs) ys p q =
-    let b = and-both (same (x .0) (x .1)) (allSame xs) p in
-    ap₂ _&&_ (b .0) (all-parts xs ys (b .1) q)
-
--- Images and lists that are read to their end, and refused starts.
-runs : List (List ℕ × List ℕ)
+pub settings : List (List ℕ × List ℕ)
 unfolding next quotedFrom quoted
-runs =
-    -- the image and the list of the rules: the level-one table stands at root 0
-    (
-      reportText 32768 imageA (quoted
-          "op,a,b,c\nread,1000,4,0\nwrite,404,4,4832\nread,1000,4,0\naddr,1000,0,0\nread,1000,4,0\nread,1002,4,0\nread,2000,1,0\nmode,1,0,0\nread,404,4,0\nall,0,0,0\n"),
-      quoted
-          "line,op,answer,value\n2,read,ok,12345678\n3,write,ok,0\n4,read,refused,10\n5,addr,ok,0\n6,read,ok,11223344\n7,read,fault,1\n8,read,fault,7\n9,mode,ok,0\na,read,fault,f\nb,all,refused,f\n",
-    )
-    -- a global page changed to another global mapping: `ctx` leaves it stale, `addrctx` of any context frees it; and fetches from it
-    ∷ (
-      reportText 4096 globalSection (quoted
-          "op,a,b,c\nwrite,0,4,402\nctx,0,0,0\nread,0,4,0\naddrctx,0,7,0\nread,0,4,0\nread,1000,4,0\nfetch,0,0,0\nfetch,1000,0,0\nfetch,2,0,0\nfetch,400000,0,0\n"),
-      quoted
-          "line,op,answer,value\n2,write,ok,0\n3,ctx,ok,0\n4,read,refused,10\n5,addrctx,ok,0\n6,read,ok,402\n7,read,refused,10\n8,fetch,ok,402\n9,fetch,refused,10\na,fetch,fault,1\nb,fetch,refused,8\n",
-    )
+settings =
+    -- the level-one table stands at root 0
+    (reportText 4096 globalSection (quoted "op,a,b,c\nread,0,4,0\n"), quoted "line,op,answer,value\n2,read,ok,c02\n")
     -- eight contexts
     ∷ (reportOfList (quoted "op,a,b,c\nasid,7,0,0\nasid,8,0,0\n"), quoted "line,op,answer,value\n2,asid,ok,0\n3,asid,refused,b\n")
     -- an image of 32,768 bytes, longer ones, and one that is missing
@@ -74,56 +54,12 @@ runs =
     ∷ (reportText 32769 (replicate 32769 0) (quoted "op,a,b,c\n"), quoted "line,op,answer,value\n0,start,refused,d\n")
     ∷ (reportText 36864 (replicate 36864 0) (quoted "op,a,b,c\n"), quoted "line,op,answer,value\n0,start,refused,d\n")
     ∷ (reportText 0 [] (quoted "op,a,b,c\n"), quoted "line,op,answer,value\n0,start,refused,d\n")
-    ∷ []
-
--- Lists that are turned back.
-refusals : List (List ℕ × List ℕ)
-unfolding next quotedFrom quoted
-refusals =
-    -- 1: a list of 65,537 bytes, and not one of 65,536
-    (reportOfList (replicate 65537 10), quoted "line,op,answer,value\n1,-,refused,1\n")
-    ∷ (reportOfList (replicate 65536 10), quoted "line,op,answer,value\n1,-,refused,2\n")
-    -- 2: the empty list, and names without their newline
+    -- a list that is turned back at its first line, and at a later one
     ∷ (reportOfList [], quoted "line,op,answer,value\n1,-,refused,2\n")
-    ∷ (reportOfList (quoted "op,a,b,c"), quoted "line,op,answer,value\n1,-,refused,2\n")
-    -- 3: three fields, five, one, and no newline at the end; 3 before 4
     ∷ turnedBack "read,1000,4" "3"
-    ∷ turnedBack "read,1000,4,0,0" "3"
-    ∷ turnedBack "" "3"
-    ∷ turnedBack "read,XX,4" "3"
-    ∷ (reportOfList (quoted "op,a,b,c\nmode,0,0,0"), quoted "line,op,answer,value\n2,-,refused,3\n")
-    -- 4: empty, a leading zero, nine digits, upper case; 4 before 5, and before 6
-    ∷ turnedBack "read,,4,0" "4"
-    ∷ turnedBack "read,01000,4,0" "4"
-    ∷ turnedBack "read,123456789,4,0" "4"
-    ∷ turnedBack "read,ABC,4,0" "4"
-    ∷ turnedBack "Read,XX,4,0" "4"
-    ∷ turnedBack "all,1,0,X" "4"
-    -- 5: no such operation, and no name at all
-    ∷ turnedBack "Read,1000,4,0" "5"
-    ∷ turnedBack ",0,0,0" "5"
-    ∷ turnedBack "fetches,0,0,0" "5"
-    -- 6: an unused field, the first, the second or the third
-    ∷ turnedBack "all,1,0,0" "6"
-    ∷ turnedBack "root,80,1,0" "6"
-    ∷ turnedBack "addrctx,1000,0,1" "6"
-    ∷ turnedBack "fetch,1000,4,0" "6"
-    ∷ turnedBack "fetch,1000,0,1" "6"
     ∷ []
-
-runs-hold : allSame runs ≡ true
-unfolding runs next quotedFrom quoted same has until past digit glyph digits number lean spelled valueOf spell hexOf over last checkerRun
-    namedIn spare zeros opOf judged valuesOf fieldA fieldB fieldC fieldsOf lineOf tooLong hasNames readLines readList reportLine answerLines answerText bodyOf reportOf
-runs-hold = refl
-
-refusals-hold : allSame refusals ≡ true
-unfolding refusals next quotedFrom quoted same has until past digit glyph digits number lean spelled valueOf spell hexOf over last checkerRun
-    namedIn spare zeros opOf judged valuesOf fieldA fieldB fieldC fieldsOf lineOf tooLong hasNames readLines readList reportLine answerLines answerText bodyOf reportOf
-refusals-hold = refl
-
-pub settings : List (List ℕ × List ℕ)
-settings = runs ++ refusals
 
 pub settings-hold : allSame settings ≡ true
-unfolding settings
-settings-hold = all-parts runs refusals runs-hold refusals-hold
+unfolding settings next quotedFrom quoted same has until past digit glyph digits number lean spelled valueOf spell hexOf over last checkerRun
+    namedIn spare zeros opOf judged valuesOf fieldA fieldB fieldC fieldsOf lineOf tooLong hasNames readLines readList reportLine answerLines answerText bodyOf reportOf
+settings-hold = refl

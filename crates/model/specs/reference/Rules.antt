@@ -129,7 +129,7 @@ among k (x ∷ xs) = eqb (kindNumber k) (kindNumber x) || among k xs
 abbrev pub accesses : List Kind
 accesses = Read ∷ Write ∷ Fetch ∷ []
 
--- The size of an access is its field b, and that of a fetch 4.
+-- A read or a write takes as many bytes as its field b says, a fetch four.
 unfoldable pub accessSize : Operation → ℕ
 accessSize o = cond (among (o .kind) (Fetch ∷ [])) 4 (o .b)
 
