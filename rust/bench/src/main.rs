@@ -124,6 +124,7 @@ fn lists() -> Vec<List> {
         _ => op(Kind::AddrCtx, 0x1000, i % 8, 0),
     };
     let read = |i: u32| op(Kind::Read, 0x1000 + i % 256, 1, 0);
+    let fetch = |i: u32| op(Kind::Fetch, 0x1000 + 4 * (i % 64), 0, 0);
     let all = |n: u32, operation: &dyn Fn(u32) -> Operation| (0..n).map(operation).collect();
     let on_image_a = |name, operations| List {
         name,
@@ -141,6 +142,7 @@ fn lists() -> Vec<List> {
         on_image_a("2,000 descriptor stores", all(2_000, &descriptor_store)),
         on_image_a("3,500 flushes", all(3_500, &flush)),
         on_image_a("4,000 reads", all(4_000, &read)),
+        on_image_a("4,000 fetches", all(4_000, &fetch)),
         reads(
             "4,000 reads, all 1,024 pages mapped by tables",
             image_of_tables([NG_PAGE, 0]),
