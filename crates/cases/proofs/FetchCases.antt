@@ -4,7 +4,7 @@ use mathlib.Core.List.{List, [], _∷_, _++_}
 use lib.ListN.{replicate}
 use Rattle.model.specs.step.Track.{wordAt}
 use Rattle.model.specs.step.Machine.{After, started}
-use Rattle.model.specs.declared.Kind.the-variants.{Read, Write, Root, Asid, Mode, All, Addr, Ctx, AddrCtx, Fetch}
+use Rattle.model.specs.declared.Kind.the-variants.{Read, Write, Asid, Addr, AddrCtx, Fetch}
 use Rattle.model.proofs.CaseTools.{put, zeros, next, faultCode, refusalCode, answered}
 use Rattle.cases.proofs.GlobalCases.{given}
 

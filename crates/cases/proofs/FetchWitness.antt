@@ -1,6 +1,6 @@
 -- Fetches taken through the third demand: image A, 0 written to 0x404, then a fetch of 0x1000; a checker that does not ask of it whether its
 -- page is stale; and a page whose XN bit alone changes, fetched from by a chip that still holds its old entry.
-use Prim.Native.Nat.{ℕ, _+_}
+use Prim.Native.Nat.{ℕ}
 use mathlib.Core.Path.{_≡_, refl, sym, _∙_}
 use mathlib.Core.Logic.{inl}
 use mathlib.Core.Bool.{true, false, cond}
