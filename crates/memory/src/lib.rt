@@ -32,18 +32,15 @@ pub fn bytes(size: Size) -> usize
     }
 }
 
-// Whether the bytes of this size from `at` lie in memory.
+// Whether the bytes of this size from `at` lie in memory: behind the first of them is room for the rest.
 pub fn inside(m: &[u8], at: usize, size: Size) -> bool
     ensures { λ r. ⌜ r ≡ within size (now (m .entry)) at ⌝ }
 {
-    let n = bytes(size);
-    if m.len() < at {
+    let rest = bytes(size) - 1;
+    if m.len() < rest {
         return false;
     }
-    if m.len() - at < n {
-        return false;
-    }
-    true
+    at < m.len() - rest
 }
 
 // Numbers of one, two and four bytes that lie in memory.
@@ -58,7 +55,7 @@ fn two(m: &[u8], at: usize) -> u32
     requires { ⌜ at + 2 ≤ length (now m) ⌝ }
     ensures { λ r. ⌜ r ≡ numberAt Two (now (m .entry)) at ⌝ }
 {
-    number(m[at], m[at + 1], 0, 0)
+    wide(m[at]) + 256 * wide(m[at + 1])
 }
 
 fn four(m: &[u8], at: usize) -> u32

@@ -1,10 +1,11 @@
 use Prim.Native.Nat.{_+_}
 use lib.ListN.{length}
+use mathlib.Core.Path.{sym, _∙_}
 use denote.Ref.{now}
-use Rattle.model.specs.step.Memory.{bytesOf, within}
-use mathlib.Core.Path.{sym}
-use borrow.Author.Tests.{le-leb, lt-leb}
+use borrow.Author.Tests.{lt-leb}
 use native.Mathlib.Omega.{arith}
+use Rattle.model.specs.step.Memory.{bytesOf, within}
+use Rattle.memory.proofs.Laws.{bytes-pos, room}
 use borrow.Author.Needs.{needs}
 use Rattle.memory.proofs.inside.Statement.{statement}
 use Rattle.memory.proofs.inside.Tie as tie
@@ -15,23 +16,21 @@ use Rattle.memory.proofs.bytes.Reads as bytes-reads
 bytes-requires : tie.Need-bytes-requires
 bytes-requires c κs = search needs
 
+sub-rest : tie.Need-sub-rest
+sub-rest c = rw (c .bytes .ensures) (bytes-pos (c .before .before .args .size))
+
 returns : tie.Need-returns
 unfolding within
 returns c = let a = c .before .before .before .args in
     sym (lt-leb (a .at + bytesOf (a .size)) (length (now (a .m))) (omega arith))
 
-sub-if2 : tie.Need-sub-if2
-sub-if2 c = search needs
+sub-result : tie.Need-sub-result
+sub-result c = search needs
 
 returns-2 : tie.Need-returns-2
 unfolding within
-returns-2 c = let a = c .before .before .before .before .args in
-    sym (lt-leb (a .at + bytesOf (a .size)) (length (now (a .m))) (omega arith))
-
-returns-3 : tie.Need-returns-3
-unfolding within
-returns-3 c = let a = c .before .before .before .before .args in
-    sym (le-leb (a .at + bytesOf (a .size)) (length (now (a .m))) (omega arith))
+returns-2 c = let a = c .before .before .before .args in
+    rw (c .before .bytes .ensures) (room (a .at) (bytesOf (a .size)) (length (now (a .m))) (bytes-pos (a .size)) (omega arith))
 
 pub inside-spec : {M : Type 1} → statement M
-inside-spec = tie.close (tie.spec bytes-requires returns sub-if2 returns-2 returns-3)
+inside-spec = tie.close (tie.spec bytes-requires sub-rest returns sub-result returns-2)

@@ -3,18 +3,28 @@ use Rattle.memory.proofs.two.Statement.{statement}
 use Rattle.memory.proofs.two.Tie as tie
 use Rattle.memory.proofs.two.Reads as reads
 use Rattle.memory.proofs.two.Lts as lts
+use Rattle.memory.proofs.wide.Reads as wide-reads
 
-shared-slice-read-number : tie.Need-shared-slice-read-number
-shared-slice-read-number c = search needs
+shared-slice-read-wide : tie.Need-shared-slice-read-wide
+shared-slice-read-wide c = search needs
 
-add-number : tie.Need-add-number
-add-number c = search needs
+wide-requires : tie.Need-wide-requires
+wide-requires c κs = search needs
 
-shared-slice-read-number-2 : tie.Need-shared-slice-read-number-2
-shared-slice-read-number-2 c = search needs
+add-wide : tie.Need-add-wide
+add-wide c = search needs
 
-number-requires : tie.Need-number-requires
-number-requires c κs = search needs
+shared-slice-read-wide-2 : tie.Need-shared-slice-read-wide-2
+shared-slice-read-wide-2 c = search needs
+
+wide-requires-2 : tie.Need-wide-requires-2
+wide-requires-2 c κs = search needs
+
+mul-result : tie.Need-mul-result
+mul-result c = search needs
+
+add-result : tie.Need-add-result
+add-result c = search needs
 
 returns : tie.Need-returns
 returns c = search needs
@@ -23,8 +33,11 @@ pub two-spec : {M : Type 1} → statement M
 two-spec =
     tie.close
     (tie.spec
-    shared-slice-read-number
-    add-number
-    shared-slice-read-number-2
-    number-requires
+    shared-slice-read-wide
+    wide-requires
+    add-wide
+    shared-slice-read-wide-2
+    wide-requires-2
+    mul-result
+    add-result
     returns)
