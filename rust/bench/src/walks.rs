@@ -1,0 +1,138 @@
+//! Single walks, through the C function and through the model.
+use crate::archive::Archive;
+use crate::images::{image_of_root_words, image_of_sections, image_of_tables, NG_PAGE};
+use crate::timing::{print_row, shortest};
+use model::generate;
+use model::random::Random;
+use model::walk::{fault, single_walk};
+use std::hint::black_box;
+use std::io;
+use std::path::Path;
+
+const WALKS: usize = 100_000;
+const RUNS: usize = 20;
+
+/// Walks to be timed.
+struct Walks {
+    name: &'static str,
+    image: Vec<u8>,
+    root: u32,
+    addresses: Vec<u32>,
+}
+
+/// Walks of any addresses of an image.
+fn walks(name: &'static str, image: Vec<u8>, root: u32) -> Walks {
+    let mut random = Random::new(1);
+    Walks {
+        name,
+        image,
+        root,
+        addresses: (0..WALKS).map(|_| random.word() & 0x3F_FFFF).collect(),
+    }
+}
+
+/// What a walk answers that ends with a fault.
+const FAULT: u64 = 0x1_0000_0000;
+
+/// The section bit of a track word.
+const SECTION: u64 = 1 << 8;
+
+/// Whether an answer is of one kind.
+type Ends = fn(u64) -> bool;
+
+/// Walks that all end alike, with how they end.
+fn alike() -> Vec<(Walks, Ends)> {
+    let tables = || image_of_tables([NG_PAGE, 0]);
+    let behind = tables().len() as u32;
+    vec![
+        (walks("a page table", tables(), 0), |x| {
+            x < FAULT && x & SECTION == 0
+        }),
+        (walks("a section", image_of_sections(), 0), |x| {
+            x < FAULT && x & SECTION != 0
+        }),
+        (
+            walks("an unmapped page, by level one", image_of_root_words(0), 0),
+            |x| x == FAULT + u64::from(fault::UNMAPPED_FIRST),
+        ),
+        (
+            walks(
+                "an unmapped page, by its table",
+                image_of_root_words(0x401),
+                0,
+            ),
+            |x| x == FAULT + u64::from(fault::UNMAPPED_SECOND),
+        ),
+        (walks("leaves memory at level one", tables(), behind), |x| {
+            x == FAULT + u64::from(fault::WALK_OUTSIDE_FIRST)
+        }),
+        (
+            walks(
+                "leaves memory at level two",
+                image_of_root_words(behind | 1),
+                0,
+            ),
+            |x| x == FAULT + u64::from(fault::WALK_OUTSIDE_SECOND),
+        ),
+    ]
+}
+
+/// All walks that are timed: of a generated image, which end in every way, then those that end alike.
+fn all() -> Vec<Walks> {
+    let mixed = generate::image(&mut Random::new(1));
+    let mut all = vec![walks("a generated image", mixed, 0)];
+    for (walks, ends) in alike() {
+        let answer = |a: &u32| single_walk(&walks.image, walks.root, *a);
+        assert!(
+            walks.addresses.iter().map(answer).all(ends),
+            "{}",
+            walks.name
+        );
+        all.push(walks);
+    }
+    all
+}
+
+fn run(walks: &Walks, walk: impl Fn(&[u8], u32, u32) -> u64) {
+    for a in &walks.addresses {
+        black_box(walk(black_box(&walks.image), walks.root, *a));
+    }
+}
+
+/// Prints the times of the C function and of the model.
+pub fn against_model() {
+    println!("| 100,000 walks | proved | the model | ratio |\n|---|---|---|---|");
+    for w in all() {
+        let [ours, model] = shortest(
+            RUNS,
+            [&mut || run(&w, calls::walk), &mut || run(&w, single_walk)],
+        );
+        print_row(w.name, ours, &[model]);
+    }
+}
+
+/// Prints the times of the C function of one archive, `after`, of an earlier one, `before`, and of
+/// the model.
+pub fn against_before(before: &Path, after: &Path) -> io::Result<()> {
+    let (before, after) = (Archive::load(before)?, Archive::load(after)?);
+    println!(
+        "| 100,000 walks | after | before | ratio | the model | ratio |\n|---|---|---|---|---|---|"
+    );
+    for w in all() {
+        for a in &w.addresses {
+            let expected = single_walk(&w.image, w.root, *a);
+            assert_eq!(before.walk(&w.image, w.root, *a), expected, "{}", w.name);
+            assert_eq!(after.walk(&w.image, w.root, *a), expected, "{}", w.name);
+        }
+        let [new, old, model] = shortest(
+            RUNS,
+            [
+                &mut || run(&w, |image, root, a| after.walk(image, root, a)),
+                &mut || run(&w, |image, root, a| before.walk(image, root, a)),
+                &mut || run(&w, single_walk),
+            ],
+        );
+        print_row(w.name, new, &[old, model]);
+    }
+    Ok(())
+}
