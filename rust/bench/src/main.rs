@@ -12,6 +12,8 @@ mod walks;
 use std::path::Path;
 use std::{env, io};
 
+const USAGE: &str = "usage: bench [walks BEFORE AFTER | by-page | by-mib]";
+
 fn main() -> io::Result<()> {
     let words: Vec<String> = env::args().skip(1).collect();
     let words: Vec<&str> = words.iter().map(String::as_str).collect();
@@ -25,9 +27,9 @@ fn main() -> io::Result<()> {
         ["walks", before, after] => walks::against_before(Path::new(before), Path::new(after)),
         [asked] => {
             let way = lists::WAYS.iter().find(|(name, _)| *name == asked);
-            let (_, note) = way.ok_or_else(|| io::Error::other("by-page or by-mib"))?;
+            let (_, note) = way.ok_or_else(|| io::Error::other(USAGE))?;
             rival::run(*note)
         }
-        _ => Err(io::Error::other("walks BEFORE AFTER, by-page or by-mib")),
+        _ => Err(io::Error::other(USAGE)),
     }
 }

@@ -31,48 +31,53 @@ fn walks(name: &'static str, image: Vec<u8>, root: u32) -> Walks {
     }
 }
 
-/// What a walk answers that ends with a fault.
-const FAULT: u64 = 0x1_0000_0000;
+/// How a walk ends.
+#[derive(PartialEq, Clone, Copy)]
+enum End {
+    Page,
+    Section,
+    Fault(u32),
+}
 
-/// The section bit of a track word.
-const SECTION: u64 = 1 << 8;
+fn end(answer: u64) -> End {
+    match answer.checked_sub(0x1_0000_0000) {
+        Some(fault) => End::Fault(fault as u32),
+        None if answer & 1 << 8 == 0 => End::Page,
+        None => End::Section,
+    }
+}
 
-/// Whether an answer is of one kind.
-type Ends = fn(u64) -> bool;
-
-/// Walks that all end alike, with how they end.
-fn alike() -> Vec<(Walks, Ends)> {
+/// Images and roots in which all walks end alike.
+fn alike() -> [(&'static str, Vec<u8>, u32, End); 6] {
     let tables = || image_of_tables([NG_PAGE, 0]);
     let behind = tables().len() as u32;
-    vec![
-        (walks("a page table", tables(), 0), |x| {
-            x < FAULT && x & SECTION == 0
-        }),
-        (walks("a section", image_of_sections(), 0), |x| {
-            x < FAULT && x & SECTION != 0
-        }),
+    let root_words = image_of_root_words;
+    [
+        ("a page table", tables(), 0, End::Page),
+        ("a section", image_of_sections(), 0, End::Section),
         (
-            walks("an unmapped page, by level one", image_of_root_words(0), 0),
-            |x| x == FAULT + u64::from(fault::UNMAPPED_FIRST),
+            "an unmapped page, by level one",
+            root_words(0),
+            0,
+            End::Fault(fault::UNMAPPED_FIRST),
         ),
         (
-            walks(
-                "an unmapped page, by its table",
-                image_of_root_words(0x401),
-                0,
-            ),
-            |x| x == FAULT + u64::from(fault::UNMAPPED_SECOND),
+            "an unmapped page, by its table",
+            root_words(0x401),
+            0,
+            End::Fault(fault::UNMAPPED_SECOND),
         ),
-        (walks("leaves memory at level one", tables(), behind), |x| {
-            x == FAULT + u64::from(fault::WALK_OUTSIDE_FIRST)
-        }),
         (
-            walks(
-                "leaves memory at level two",
-                image_of_root_words(behind | 1),
-                0,
-            ),
-            |x| x == FAULT + u64::from(fault::WALK_OUTSIDE_SECOND),
+            "leaves memory at level one",
+            tables(),
+            behind,
+            End::Fault(fault::WALK_OUTSIDE_FIRST),
+        ),
+        (
+            "leaves memory at level two",
+            root_words(behind | 1),
+            0,
+            End::Fault(fault::WALK_OUTSIDE_SECOND),
         ),
     ]
 }
@@ -81,13 +86,12 @@ fn alike() -> Vec<(Walks, Ends)> {
 fn all() -> Vec<Walks> {
     let mixed = generate::image(&mut Random::new(1));
     let mut all = vec![walks("a generated image", mixed, 0)];
-    for (walks, ends) in alike() {
-        let answer = |a: &u32| single_walk(&walks.image, walks.root, *a);
-        assert!(
-            walks.addresses.iter().map(answer).all(ends),
-            "{}",
-            walks.name
-        );
+    for (name, image, root, expected) in alike() {
+        let walks = walks(name, image, root);
+        for a in &walks.addresses {
+            let answer = single_walk(&walks.image, root, *a);
+            assert!(end(answer) == expected, "{name}: {a:#x} gives {answer:#x}");
+        }
         all.push(walks);
     }
     all
