@@ -1,7 +1,7 @@
 -- What the tests of `load` and `store` say of the definitions.
-use Prim.Native.Nat.{ℕ, suc, _+_, _-_, _*_, _≤_, _<_}
+use Prim.Native.Nat.{ℕ, _+_, _*_, _≤_, _<_}
 use native.Mathlib.Omega.{arith}
-use lib.Dec.{leb, ltb, lit<}
+use lib.Dec.{lit<}
 use Rattle.model.specs.declared.Size.the-variants.{One, Two, Four}
 use mathlib.Core.Path.{_≡_, refl, sym, ap, _∙_}
 use mathlib.Core.List.{List}
@@ -11,7 +11,6 @@ use borrow.Author.Tests.{leb-true}
 use Rattle.model.specs.declared.Size.{Size}
 use Rattle.model.specs.declared.Loaded.{Loaded}
 use Rattle.model.specs.declared.Loaded.the-variants.{Value, Outside}
-use Rattle.model.proofs.BoolLaws.{leb-same}
 use Rattle.model.specs.step.Memory.{bytesOf, numberAt, storedAt, within, loadAt, writtenAt}
 
 module _ (m : List ℕ) (at : ℕ) (s : Size) (b : Bool) (w : b ≡ within s m at) where
@@ -43,10 +42,6 @@ pub bytes-pos : (s : Size) → 0 < bytesOf s
 bytes-pos One = lit< tt
 bytes-pos Two = lit< tt
 bytes-pos Four = lit< tt
-
--- a number of n bytes lies in memory exactly where its first byte leaves room for the others
-pub room : (at n len : ℕ) → 0 < n → n - 1 ≤ len → ltb at (len - (n - 1)) ≡ leb (at + n) len
-room at n len p h = leb-same (suc at) (len - (n - 1)) (at + n) len (λ e. omega (arith, e, p, h)) (λ e. omega (arith, e, p, h))
 
 -- the number that four bytes of memory make
 pub four-bytes : (m : List ℕ) (at r : ℕ) → r ≡ getD m at 0 + 256 * getD m (at + 1) 0 + 65536 * (getD m (at + 2) 0 + 256 * getD m (at + 3) 0) → r ≡ numberAt Four m at

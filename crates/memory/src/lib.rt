@@ -40,7 +40,10 @@ pub fn inside(m: &[u8], at: usize, size: Size) -> bool
     if m.len() < rest {
         return false;
     }
-    at < m.len() - rest
+    if at < m.len() - rest {
+        return true;
+    }
+    false
 }
 
 // Numbers of one, two and four bytes that lie in memory.

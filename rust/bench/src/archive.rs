@@ -21,8 +21,11 @@ pub struct Archive {
 }
 
 impl Archive {
-    /// Loads an archive, which must be one that `rt staticlib walk` wrote.
-    pub fn load(archive: &Path) -> io::Result<Archive> {
+    /// Loads an archive.
+    ///
+    /// # Safety
+    /// It must be one that `rt staticlib` wrote: its code is called with the types of the C header.
+    pub unsafe fn load(archive: &Path) -> io::Result<Archive> {
         let no = |what: &str| io::Error::other(format!("{}: {what}", archive.display()));
         let folder = programs::Folder::with_image(None);
         let library = folder.path().join("walk.so");
@@ -36,7 +39,7 @@ impl Archive {
             return Err(no(&String::from_utf8_lossy(&linked.stderr)));
         }
         let library = CString::new(library.as_os_str().as_bytes())?;
-        // SAFETY: the path ends with 0; the library has code only, which runs nothing when loaded.
+        // SAFETY: the path ends with 0; what `rt staticlib` writes runs nothing when it is loaded.
         let library = unsafe { dlopen(library.as_ptr(), RTLD_NOW) };
         if library.is_null() {
             return Err(no("its shared library does not load"));
@@ -67,7 +70,8 @@ mod tests {
     #[test]
     fn the_present_archive_walks_as_the_linked_one() {
         let archive = programs::repository().join("target/staticlib/libwalk.a");
-        let loaded = Archive::load(&archive).expect("the archive");
+        // SAFETY: `rt staticlib walk` wrote it.
+        let loaded = unsafe { Archive::load(&archive) }.expect("the archive");
         for address in (0..0x40_1000).step_by(0x800) {
             let found = loaded.walk(&image_a(), 0, address);
             assert_eq!(found, calls::walk(&image_a(), 0, address), "{address:#x}");
@@ -76,8 +80,10 @@ mod tests {
 
     #[test]
     fn an_archive_without_the_walk_is_an_error() {
-        let archive = programs::repository().join("target/staticlib/libffi.a");
-        assert!(Archive::load(&archive).is_err());
-        assert!(Archive::load(Path::new("no-such-archive")).is_err());
+        let archive = &programs::repository().join("target/staticlib/libffi.a");
+        for path in [archive, Path::new("no-such-archive")] {
+            // SAFETY: `rt staticlib ffi` wrote the one, and the other is not there.
+            assert!(unsafe { Archive::load(path) }.is_err());
+        }
     }
 }

@@ -118,7 +118,8 @@ pub fn against_model() {
 /// Prints the times of the C function of one archive, `after`, of an earlier one, `before`, and of
 /// the model.
 pub fn against_before(before: &Path, after: &Path) -> io::Result<()> {
-    let (before, after) = (Archive::load(before)?, Archive::load(after)?);
+    // SAFETY: the command is given archives of `rt staticlib walk`.
+    let (before, after) = unsafe { (Archive::load(before)?, Archive::load(after)?) };
     println!(
         "| 100,000 walks | after | before | ratio | the model | ratio |\n|---|---|---|---|---|---|"
     );

@@ -1,11 +1,11 @@
 use Prim.Native.Nat.{_+_}
 use lib.ListN.{length}
-use mathlib.Core.Path.{sym, _∙_}
 use denote.Ref.{now}
-use borrow.Author.Tests.{lt-leb}
-use native.Mathlib.Omega.{arith}
 use Rattle.model.specs.step.Memory.{bytesOf, within}
-use Rattle.memory.proofs.Laws.{bytes-pos, room}
+use Rattle.memory.proofs.Laws.{bytes-pos}
+use mathlib.Core.Path.{sym}
+use borrow.Author.Tests.{le-leb, lt-leb}
+use native.Mathlib.Omega.{arith}
 use borrow.Author.Needs.{needs}
 use Rattle.memory.proofs.inside.Statement.{statement}
 use Rattle.memory.proofs.inside.Tie as tie
@@ -24,13 +24,18 @@ unfolding within
 returns c = let a = c .before .before .before .args in
     sym (lt-leb (a .at + bytesOf (a .size)) (length (now (a .m))) (omega arith))
 
-sub-result : tie.Need-sub-result
-sub-result c = search needs
+sub-if2 : tie.Need-sub-if2
+sub-if2 c = search needs
 
 returns-2 : tie.Need-returns-2
 unfolding within
-returns-2 c = let a = c .before .before .before .args in
-    rw (c .before .bytes .ensures) (room (a .at) (bytesOf (a .size)) (length (now (a .m))) (bytes-pos (a .size)) (omega arith))
+returns-2 c = let a = c .before .before .before .before .args in
+    sym (le-leb (a .at + bytesOf (a .size)) (length (now (a .m))) (omega arith))
+
+returns-3 : tie.Need-returns-3
+unfolding within
+returns-3 c = let a = c .before .before .before .before .args in
+    sym (lt-leb (a .at + bytesOf (a .size)) (length (now (a .m))) (omega (arith, bytes-pos (a .size))))
 
 pub inside-spec : {M : Type 1} → statement M
-inside-spec = tie.close (tie.spec bytes-requires sub-rest returns sub-result returns-2)
+inside-spec = tie.close (tie.spec bytes-requires sub-rest returns sub-if2 returns-2 returns-3)
