@@ -1,13 +1,16 @@
-// What access permissions allow, and what an access comes to: a physical address, a fault, or that its page is stale.
+// What access permissions and domains allow, and what an access comes to: a physical address, a fault, or that its page is stale.
 ghost use mathlib.Core.Path.{_≡_};
-ghost use Rattle.model.specs.step.Rights.{between, kernelRights, userRights, rightsOf, permitted};
-ghost use Rattle.model.specs.step.Machine.{sizeOf, permissionFaultOf, granted, decided, accessAt};
+ghost use mathlib.Core.Bool.{cond};
+ghost use lib.Dec.{eqb};
+ghost use Rattle.model.specs.step.Rights.{between, kernelRights, userRights, rightsOf, permitted, fieldAt, rulingOf};
+ghost use Rattle.model.specs.step.Machine.{sizeOf, permissionFaultOf, domainFaultOf, reached, granted, decided, accessAt};
 use model::Access;
 use model::Entry;
 use model::Fault;
 use model::Outcome;
 use model::Purpose;
 use model::Registers;
+use model::Ruling;
 use model::Size;
 
 // Whether x is one of low to high.
@@ -76,6 +79,38 @@ pub fn permitted(ap: u32, mode: u32, purpose: Purpose, xn: u32) -> bool
     }
 }
 
+// The field of a domain in a domain register.
+pub fn field_of(domains: u32, domain: u32) -> u32
+    ensures { λ r. ⌜ r ≡ fieldAt domains domain ⌝ }
+{
+    let mut left = domains;
+    let mut i = 0;
+    while i < domain {
+        if left == 0 {
+            return 0;
+        }
+        left = left / 4;
+        i += 1;
+    }
+    left % 4
+}
+
+// What is said of an access, by the field of the entry's domain: 3 allows everything, 1 what is permitted, and any other field nothing.
+pub fn rule(ap: u32, mode: u32, purpose: Purpose, field: u32, xn: u32) -> Ruling
+    ensures { λ r. ⌜ r ≡ rulingOf ap mode purpose field xn ⌝ }
+{
+    if field == 3 {
+        return Ruling::Allowed;
+    }
+    if field == 1 {
+        if permitted(ap, mode, purpose, xn) {
+            return Ruling::Allowed;
+        }
+        return Ruling::PermissionDenied;
+    }
+    Ruling::DomainDenied
+}
+
 // The size that a field names, where it names one.
 pub fn size_of(b: u32) -> Size
     ensures { λ r. ⌜ r ≡ sizeOf b ⌝ }
@@ -89,34 +124,57 @@ pub fn size_of(b: u32) -> Size
     Size::Four
 }
 
+// The first fault where a section gave this entry, the second where a page did.
+fn by_level(e: Entry, section: Fault, page: Fault) -> Fault
+    ensures { λ r. ⌜ r ≡ cond (eqb (e .section) 1) section page ⌝ }
+{
+    if e.section == 1 {
+        return section;
+    }
+    page
+}
+
 // The permission fault of an access through this entry.
 pub fn permission_fault(e: Entry) -> Fault
     ensures { λ r. ⌜ r ≡ permissionFaultOf e ⌝ }
 {
-    if e.section == 1 {
-        return Fault::SectionPermission;
-    }
-    Fault::PagePermission
+    by_level(e, Fault::SectionPermission, Fault::PagePermission)
 }
 
-// An access to a page with this outcome: permission, then the bytes.
-pub fn grant(o: Outcome, mode: u32, purpose: Purpose, size: Size, a: u32, m: &[u8]) -> Access
-    ensures { λ r. ⌜ r ≡ granted o mode purpose size a (now (m .entry)) ⌝ }
+// The domain fault of an access through this entry.
+pub fn domain_fault(e: Entry) -> Fault
+    ensures { λ r. ⌜ r ≡ domainFaultOf e ⌝ }
+{
+    by_level(e, Fault::SectionDomain, Fault::PageDomain)
+}
+
+// An access through an entry, of which this is said: a fault, or the bytes.
+pub fn reach(x: Ruling, e: Entry, size: Size, a: u32, m: &[u8]) -> Access
+    ensures { λ r. ⌜ r ≡ reached x e size a (now (m .entry)) ⌝ }
+{
+    match x {
+        Ruling::Allowed => {
+            let at = e.frame as usize * 4096 + a as usize % 4096; // pageSize
+            if memory::inside(m, at, size) {
+                return Access::Physical(at);
+            }
+            Access::Fails(Fault::AccessOutside)
+        }
+        Ruling::PermissionDenied => Access::Fails(permission_fault(e)),
+        Ruling::DomainDenied => Access::Fails(domain_fault(e)),
+    }
+}
+
+// An access to a page with this outcome: domain and permission, then the bytes.
+pub fn grant(o: Outcome, r: Registers, purpose: Purpose, size: Size, a: u32, m: &[u8]) -> Access
+    ensures { λ x. ⌜ x ≡ granted o r purpose size a (now (m .entry)) ⌝ }
 {
     match o {
         Outcome::Failed(f) => Access::Fails(f),
         Outcome::Mapped(e) => {
-            let at = e.frame as usize * 4096 + a as usize % 4096; // pageSize
-            let allowed = permitted(e.ap, mode, purpose, e.xn);
-            let denied = permission_fault(e);
-            let found = memory::inside(m, at, size);
-            if !allowed {
-                return Access::Fails(denied);
-            }
-            if !found {
-                return Access::Fails(Fault::AccessOutside);
-            }
-            Access::Physical(at)
+            let field = field_of(r.domains, e.domain);
+            let said = rule(e.ap, r.mode, purpose, field, e.xn);
+            reach(said, e, size, a, m)
         }
     }
 }
@@ -125,13 +183,13 @@ pub fn grant(o: Outcome, mode: u32, purpose: Purpose, size: Size, a: u32, m: &[u
 pub fn decide(
     o: Outcome,
     stale: bool,
-    mode: u32,
+    r: Registers,
     purpose: Purpose,
     size: Size,
     a: u32,
     m: &[u8],
 ) -> Access
-    ensures { λ r. ⌜ r ≡ decided o stale mode purpose size a (now (m .entry)) ⌝ }
+    ensures { λ x. ⌜ x ≡ decided o stale r purpose size a (now (m .entry)) ⌝ }
 {
     let n = memory::bytes(size);
     let rest = a as usize % n;
@@ -139,7 +197,7 @@ pub fn decide(
         if stale {
             return Access::Stale;
         }
-        return grant(o, mode, purpose, size, a, m);
+        return grant(o, r, purpose, size, a, m);
     }
     Access::Fails(Fault::Alignment)
 }
@@ -151,5 +209,5 @@ pub fn access_at(r: Registers, m: &[u8], t: &[u32], purpose: Purpose, size: Size
     let page = a as usize / 4096; // pageSize
     let o = walk::walk(m, r.root, page);
     let stale = track::is_stale_page(t, r.context, page, o);
-    decide(o, stale, r.mode, purpose, size, a, m)
+    decide(o, stale, r, purpose, size, a, m)
 }

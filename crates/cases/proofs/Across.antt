@@ -6,7 +6,7 @@ use mathlib.Core.Bool.{Bool, true, false}
 use mathlib.Core.List.{List, [], _∷_, map}
 use native.Mathlib.Omega.{arith}
 use lib.ListN.{set, replicate}
-use Rattle.model.specs.reference.Rules.{fresh, access, translated, touched, stored, aligned, accessSize, mayRead, mayWrite, permits, rightOf, physical, among, outcome, setRegisters, effect, carriedOut, plainStep, scopeOf, covers, flushes, Held, heldScope, matches, heldFor, anyClash, load, isFree, putIn, move, moves, orWalk, chipOutcome, flushPlace, chipStep, walk, descriptor, tableWord, globalBy, section, bits, value, inMemory}
+use Rattle.model.specs.reference.Rules.{fresh, access, translated, touched, stored, aligned, accessSize, mayRead, mayWrite, permits, fieldOf, ruling, ruled, rightOf, physical, among, outcome, setRegisters, effect, carriedOut, plainStep, scopeOf, covers, flushes, Held, heldScope, matches, heldFor, anyClash, load, isFree, putIn, move, moves, orWalk, chipOutcome, flushPlace, chipStep, walk, descriptor, tableWord, globalBy, domainOf, section, bits, value, inMemory}
 use Rattle.model.specs.reference.Runs.{last, plainRun, chipStart, chipNext, chipRun, Holds}
 use Rattle.model.specs.Invisible.{UsedAcross}
 use Rattle.model.specs.declared.Operation.{Operation}
@@ -22,11 +22,11 @@ unmapped = record { kind = Write; a = 0x80; b = 4; c = 0 } ∷ record { kind = A
 
 -- page 2, loaded under context 0
 abbrev page2 : Held
-page2 = record { context = 0; page = 2; entry = record { frame = 2; ap = 1; section = 1; global = 1; xn = 0 } }
+page2 = record { context = 0; page = 2; entry = record { frame = 2; ap = 1; section = 1; global = 1; xn = 0; domain = 0 } }
 
 pub used-across : UsedAcross
-unfolding last plainRun plainStep carriedOut effect setRegisters access translated touched stored aligned accessSize among mayRead mayWrite permits rightOf physical fresh chipStart
-    chipRun chipNext chipStep chipOutcome orWalk heldFor moves move isFree anyClash putIn outcome walk descriptor tableWord section globalBy bits value
+unfolding last plainRun plainStep carriedOut effect setRegisters access translated touched stored aligned accessSize among mayRead mayWrite permits fieldOf ruling ruled rightOf physical fresh chipStart
+    chipRun chipNext chipStep chipOutcome orWalk heldFor moves move isFree anyClash putIn outcome walk descriptor tableWord section globalBy domainOf bits value
     inMemory heldScope scopeOf covers matches flushPlace flushes Holds
 used-across = record {
   image = mapped;

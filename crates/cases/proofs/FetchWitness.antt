@@ -8,7 +8,7 @@ use mathlib.Core.Option.{Option, some}
 use mathlib.Core.List.{List, [], _∷_}
 use lib.ListN.{length, set, replicate}
 use Rattle.model.specs.Numbers.{Result, ok, fault, refused, shown}
-use Rattle.model.specs.reference.Rules.{fresh, access, translated, touched, stored, aligned, among, accessSize, mayRead, mayWrite, permits, permissionFault, rightOf, physical, outcome, setRegisters, effect, carriedOut, plainStep, scopeOf, covers, flushes, heldScope, matches, heldFor, anyClash, load, isFree, putIn, move, moves, orWalk, chipOutcome, flushPlace, chipStep, walk, descriptor, tableWord, pageWord, globalBy, section, smallPage, bits, value, inMemory}
+use Rattle.model.specs.reference.Rules.{fresh, access, translated, touched, stored, aligned, among, accessSize, mayRead, mayWrite, permits, fieldOf, ruling, ruled, permissionFault, rightOf, physical, outcome, setRegisters, effect, carriedOut, plainStep, scopeOf, covers, flushes, heldScope, matches, heldFor, anyClash, load, isFree, putIn, move, moves, orWalk, chipOutcome, flushPlace, chipStep, walk, descriptor, tableWord, pageWord, globalBy, domainOf, section, smallPage, bits, value, inMemory}
 use Rattle.model.specs.reference.Runs.{last, Checker, next, checkerRun, isRefused, told, plainRun, chipStart, chipNext, chipRun, Holds}
 use Rattle.model.specs.step.Machine.{started, stepped}
 use Rattle.model.specs.Invisible.{Accepted, isAccess, alignedAccess, atEnd, plainLast, chipLast, CouldDiffer, checker}
@@ -61,8 +61,8 @@ blind-faults = refl
 -- a chip of one place that loaded the page before the store holds its old entry
 blind-differs : CouldDiffer blindFetch case fetchBack
 unfolding blindFetch case unmap fetchBack old told isRefused stepOn Holds last plainRun plainStep carriedOut effect access translated touched stored aligned
-    accessSize among mayRead mayWrite permits rightOf physical fresh chipStart chipRun chipNext chipStep chipOutcome orWalk heldFor moves move isFree anyClash
-    putIn outcome walk descriptor tableWord pageWord smallPage globalBy bits value inMemory heldScope scopeOf covers matches flushPlace flushes
+    accessSize among mayRead mayWrite permits fieldOf ruling ruled rightOf physical fresh chipStart chipRun chipNext chipStep chipOutcome orWalk heldFor moves move isFree anyClash
+    putIn outcome walk descriptor tableWord pageWord smallPage globalBy domainOf bits value inMemory heldScope scopeOf covers matches flushPlace flushes
 blind-differs = record {
   places = 0;
   first = load 0 1 ∷ [];
@@ -82,7 +82,7 @@ blind-fetch-refuted always =
 
 -- three pages; under root 0x80 the first MiB is a section at 0 with AP 1 and nG set, its low byte as given: 2 with XN clear, 0x12 with XN set;
 -- 7 stands at the start of page 2
-abbrev image : ℕ → List ℕ
+abbrev pub image : ℕ → List ℕ
 image low = set (set (set (set (replicate 12288 0) 0x80 low) 0x81 4) 0x82 2) 0x2000 7
 
 -- the low byte is overwritten, then page 2 is fetched from
@@ -104,7 +104,7 @@ pub record OldXnDecides : Type 0 where
   pub plainFetches : plainAnswer 0x12 2 ≡ some (ok 7)
 
 pub old-xn-decides : OldXnDecides
-unfolding last plainRun plainStep carriedOut effect setRegisters access translated touched stored aligned accessSize among mayRead mayWrite permits
+unfolding last plainRun plainStep carriedOut effect setRegisters access translated touched stored aligned accessSize among mayRead mayWrite permits fieldOf ruling ruled
     permissionFault rightOf physical fresh chipStart chipRun chipNext chipStep chipOutcome orWalk heldFor moves move isFree anyClash putIn outcome walk
-    descriptor tableWord section globalBy bits value inMemory heldScope scopeOf covers matches flushPlace flushes
+    descriptor tableWord section globalBy domainOf bits value inMemory heldScope scopeOf covers matches flushPlace flushes
 old-xn-decides = record { fetches = refl; plainFaults = refl; faults = refl; plainFetches = refl }

@@ -8,10 +8,13 @@ use Rattle.model.specs.declared.Kind.the-variants.{Read, Write, Root, Asid, Mod
 use Rattle.model.specs.declared.Answer.the-variants.{Done}
 use Rattle.model.proofs.CaseTools.{put, zeros, next, faultCode, refusalCode, answered}
 
--- registers, memory and track as an operation is given them
+-- registers, memory and track as an operation is given them; with each field of the domain register 1
+abbrev pub givenWith : ℕ → ℕ → ℕ → ℕ → List ℕ → List ℕ → After
+givenWith domains root context mode m t =
+    record { answer = Done 0; registers = record { root = root; context = context; mode = mode; domains = domains }; memory = m; track = t }
+
 abbrev pub given : ℕ → ℕ → ℕ → List ℕ → List ℕ → After
-given root context mode m t =
-    record { answer = Done 0; registers = record { root = root; context = context; mode = mode }; memory = m; track = t }
+given root context mode m t = givenWith 0x55555555 root context mode m t
 
 -- The shared image has two maps. All of it is mapped at frame 0 but where another frame is named; 0x44332211 stands at 0x10.
 -- Under root 0x80: page 0 AP 1, nG set, and through it the tables are written; page 1 AP 3, nG clear; page 2 AP 3, nG set; page 3 no

@@ -1,6 +1,8 @@
--- The cases of the rules, computed by the definitions: those that the rules mark P, cases beyond them, three taken through the third
+-- The cases of the rules, computed by the definitions: those that the rules mark P, cases beyond them, four taken through the third
 -- demand, and wrong checkers that it rules out.
 pub mod Across
+pub mod DomainCases
+pub mod DomainWitness
 pub mod FetchCases
 pub mod FetchWitness
 pub mod GlobalCases

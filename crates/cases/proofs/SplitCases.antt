@@ -14,10 +14,10 @@ equalPages i zero = []
 equalPages i (suc n) = 0x32 ∷ (i % 16 * 16 + 8) ∷ (i / 16) ∷ 0 ∷ equalPages (suc i) n
 
 -- The level-one word of the first MiB, under root 0x80, is either of these: a section at 0, AP 3, nG set; the table of equal pages.
-abbrev asSection : ℕ
+abbrev pub asSection : ℕ
 asSection = 0x20C02
 
-abbrev asPages : ℕ
+abbrev pub asPages : ℕ
 asPages = 0x401
 
 -- The second MiB is a section at 0, AP 1, nG set: through it the level-one words are written. 0x44332211 stands at 0x10.
@@ -50,7 +50,7 @@ severalEach c x (p ∷ ps) = (wordAt (x .track) c p, 1) ∷ severalEach c x ps
 
 -- The level-one word of the first MiB changes from `old` to `new`, in context 1, with the old entries in the sets of contexts 0 and 1.
 -- `oldWord` and `newWord` are the words of page 0's entries.
-changing : ℕ → ℕ → ℕ → ℕ → List (ℕ × ℕ)
+unfoldable pub changing : ℕ → ℕ → ℕ → ℕ → List (ℕ × ℕ)
 unfolding next
 changing old new oldWord newWord =
     let both = next Asid 1 0 0 (started (mibImage old) (replicate 3072 0) 0x80) in

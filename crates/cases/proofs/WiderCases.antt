@@ -1,5 +1,5 @@
 -- Cases beyond those that the rules mark P, as one table: what the step's definitions compute, and what the rules say.
-use Prim.Native.Nat.{ℕ, _+_, _*_, _-_, _/_, _%_}
+use Prim.Native.Nat.{ℕ, zero, suc, _+_, _*_, _-_, _/_, _%_}
 use mathlib.Core.Path.{_≡_, refl}
 use mathlib.Core.Bool.{Bool, true, false, cond}
 use mathlib.Core.List.{List, [], _∷_, _++_}
@@ -16,7 +16,7 @@ use Rattle.model.specs.declared.Registers.{Registers}
 use Rattle.model.specs.declared.Operation.{Operation}
 use Rattle.model.specs.declared.Entry.{Entry}
 use Rattle.model.specs.declared.Kind.{Kind}
-use Rattle.model.specs.declared.Kind.the-variants.{Read, Write, Root, Asid, Mode, All, Addr, Ctx, AddrCtx, Fetch}
+use Rattle.model.specs.declared.Kind.the-variants.{Read, Write, Root, Asid, Mode, All, Addr, Ctx, AddrCtx, Fetch, Domain}
 use Rattle.model.specs.declared.Fault.the-variants.{SecondUnmapped, FirstOutside}
 use Rattle.model.specs.declared.Size.the-variants.{Four}
 use Rattle.model.specs.declared.Purpose.the-variants.{ToRead, ToWrite, ToFetch}
@@ -28,7 +28,7 @@ use Rattle.model.specs.declared.Check.{Check}
 use Rattle.model.specs.declared.Check.the-variants.{Pass, Refuse}
 use Rattle.model.proofs.CaseTools.{allMatch, put, zeros, imageA, next, faultCode, refusalCode, answered}
 use Rattle.cases.proofs.SplitCases.{splitAndJoined}
-use Rattle.cases.proofs.GlobalCases.{given, globalEntries}
+use Rattle.cases.proofs.GlobalCases.{given, givenWith, globalEntries}
 use Rattle.cases.proofs.FetchCases.{fetches}
 
 -- 1 where it holds, 0 where not
@@ -98,7 +98,8 @@ permissions =
     ++ rights 6 (1, 0) (1, 0)
     ++ rights 7 (1, 0) (1, 0)
 
--- the entry of a section's page, and of a page, as one number: one context's own with nG set, global with nG clear; with XN clear
+-- the entry of a section's page, and of a page, as one number: one context's own with nG set, global with nG clear; with XN clear, in
+-- domain 0
 abbrev ownSection : ℕ → ℕ → ℕ
 ownSection frame ap = frame * 64 + ap * 8 + 4
 
@@ -115,9 +116,13 @@ globalPage frame ap = frame * 64 + ap * 8 + 2
 abbrev withXn : ℕ → ℕ
 withXn x = x + 1
 
+-- the same entry in another domain
+abbrev inDomain : ℕ → ℕ → ℕ
+inDomain d x = x + d * 0x4000000
+
 -- an outcome: an entry or a fault
 abbrev outcome : Outcome → ℕ
-outcome (Mapped e) = e .frame * 64 + e .ap * 8 + e .section * 4 + e .global * 2 + e .xn
+outcome (Mapped e) = inDomain (e .domain) (e .frame * 64 + e .ap * 8 + e .section * 4 + e .global * 2 + e .xn)
 outcome (Failed f) = faultCode (faultNumber f)
 
 -- the outcome of a page under root 0 with this level-one word
@@ -128,9 +133,13 @@ first w page = outcome (walkPage (put (4 * (page / 256)) w zeros) 0 page)
 abbrev second : ℕ → ℕ → ℕ
 second w page = outcome (walkPage (put (0x80 + 4 * (page / 256)) 1 (put (4 * (page % 256)) w zeros)) 0x80 page)
 
+-- the same with the table in domain d
+abbrev secondIn : ℕ → ℕ → ℕ → ℕ
+secondIn d w page = outcome (walkPage (put (0x80 + 4 * (page / 256)) (1 + d * 32) (put (4 * (page % 256)) w zeros)) 0x80 page)
+
 -- the base of the table that a level-one word points to
 abbrev tableBase : FirstLevel → ℕ
-tableBase (Table t) = t
+tableBase (Table t) = t .base
 tableBase (Section e) = 0
 tableBase (Failing f) = faultCode (faultNumber f)
 
@@ -147,20 +156,36 @@ sections =
     ∷ (first 0x00000802 0, globalSection 0 2)
     -- every bit of base and AP, and the same with every ignored bit; every ignored bit alone
     ∷ (first 0xFFF08C02 0, globalSection 0xFFF00 7)
-    ∷ (first 0xFFF9FFEE 0, globalSection 0xFFF00 7)
-    ∷ (first 0x000973EE 0, globalSection 0 0)
+    ∷ (first 0xFFF9FE0E 0, globalSection 0xFFF00 7)
+    ∷ (first 0x0009720E 0, globalSection 0 0)
     -- nG, bit 17: alone, with every ignored bit, and with every other bit; bit 11 is AP's
     ∷ (first 0x00020002 0, ownSection 0 0)
-    ∷ (first 0x000B73EE 0, ownSection 0 0)
-    ∷ (first 0xFFFBFFEE 0, ownSection 0xFFF00 7)
+    ∷ (first 0x000B720E 0, ownSection 0 0)
+    ∷ (first 0xFFFBFE0E 0, ownSection 0xFFF00 7)
     ∷ (first 0x00020802 0, ownSection 0 2)
     -- XN, bit 4: alone, with every ignored bit, and with every other bit; bit 15 is AP's
     ∷ (first 0x00000012 0, withXn (globalSection 0 0))
-    ∷ (first 0x000973FE 0, withXn (globalSection 0 0))
-    ∷ (first 0xFFF9FFFE 0, withXn (globalSection 0xFFF00 7))
-    ∷ (first 0x000B73FE 0, withXn (ownSection 0 0))
-    ∷ (first 0xFFFBFFFE 0, withXn (ownSection 0xFFF00 7))
+    ∷ (first 0x0009721E 0, withXn (globalSection 0 0))
+    ∷ (first 0xFFF9FE1E 0, withXn (globalSection 0xFFF00 7))
+    ∷ (first 0x000B721E 0, withXn (ownSection 0 0))
+    ∷ (first 0xFFFBFE1E 0, withXn (ownSection 0xFFF00 7))
     ∷ (first 0x00008012 0, withXn (globalSection 0 4))
+    -- the domain, bits 8..5: each bit alone; all of them alone, with every ignored bit, and with every other bit; bits 9 and 4 are none of it
+    ∷ (first 0x00000022 0, inDomain 1 (globalSection 0 0))
+    ∷ (first 0x00000042 0, inDomain 2 (globalSection 0 0))
+    ∷ (first 0x00000082 0, inDomain 4 (globalSection 0 0))
+    ∷ (first 0x00000102 0, inDomain 8 (globalSection 0 0))
+    ∷ (first 0x000001E2 0, inDomain 15 (globalSection 0 0))
+    ∷ (first 0x00000202 0, globalSection 0 0)
+    ∷ (first 0x00000012 0, withXn (globalSection 0 0))
+    ∷ (first 0xFFF9FFEE 0, inDomain 15 (globalSection 0xFFF00 7))
+    ∷ (first 0x000973EE 0, inDomain 15 (globalSection 0 0))
+    ∷ (first 0x000B73EE 0, inDomain 15 (ownSection 0 0))
+    ∷ (first 0xFFFBFFEE 0, inDomain 15 (ownSection 0xFFF00 7))
+    ∷ (first 0x000973FE 0, inDomain 15 (withXn (globalSection 0 0)))
+    ∷ (first 0xFFF9FFFE 0, inDomain 15 (withXn (globalSection 0xFFF00 7)))
+    ∷ (first 0x000B73FE 0, inDomain 15 (withXn (ownSection 0 0)))
+    ∷ (first 0xFFFBFFFE 0, inDomain 15 (withXn (ownSection 0xFFF00 7)))
     -- the low eight frame bits come from the page
     ∷ (first 0x12300002 0x101, globalSection 0x12301 0)
     ∷ (first 0x12300002 0x180, globalSection 0x12380 0)
@@ -192,12 +217,20 @@ tables =
     ∷ (tableBase (firstOf 0x000003FD 0), 0)
     -- the same by walks, with a level-two word at 0x400
     ∷ (outcome (walkPage (put 0 0x00000401 atBase) 0 0), globalPage 0x12345 3)
-    ∷ (outcome (walkPage (put 0 0x000007FD atBase) 0 0), globalPage 0x12345 3)
+    ∷ (outcome (walkPage (put 0 0x0000061D atBase) 0 0), globalPage 0x12345 3)
     ∷ (outcome (walkPage (put 0 0x80000401 atBase) 0 0), faultCode 0xE)
     -- no bit of the level-one word is the nG of its pages, or their XN
     ∷ (outcome (walkPage (put 0 0x00000401 ownAtBase) 0 0), ownPage 0x12345 3)
-    ∷ (outcome (walkPage (put 0 0x000007FD ownAtBase) 0 0), ownPage 0x12345 3)
+    ∷ (outcome (walkPage (put 0 0x0000061D ownAtBase) 0 0), ownPage 0x12345 3)
     ∷ (outcome (walkPage (put 0 0x00000401 (put 0x400 0x12345033 zeros)) 0 0), withXn (globalPage 0x12345 3))
+    -- the domain of its pages, bits 8..5: each bit alone, all of them, and with every ignored bit
+    ∷ (outcome (walkPage (put 0 0x00000421 atBase) 0 0), inDomain 1 (globalPage 0x12345 3))
+    ∷ (outcome (walkPage (put 0 0x00000441 atBase) 0 0), inDomain 2 (globalPage 0x12345 3))
+    ∷ (outcome (walkPage (put 0 0x00000481 atBase) 0 0), inDomain 4 (globalPage 0x12345 3))
+    ∷ (outcome (walkPage (put 0 0x00000501 atBase) 0 0), inDomain 8 (globalPage 0x12345 3))
+    ∷ (outcome (walkPage (put 0 0x000005E1 atBase) 0 0), inDomain 15 (globalPage 0x12345 3))
+    ∷ (outcome (walkPage (put 0 0x000007FD atBase) 0 0), inDomain 15 (globalPage 0x12345 3))
+    ∷ (outcome (walkPage (put 0 0x000007FD ownAtBase) 0 0), inDomain 15 (ownPage 0x12345 3))
     -- the level-one word of page 0x3FF is at 0xC from the root, its level-two word at 0x3FC from the table's base
     ∷ (outcome (walkPage atEnd 0x80 0x3FF), globalPage 0x12345 3)
     ∷ (outcome (walkPage atEnd 0x80 0x3FE), faultCode 0x7)
@@ -270,6 +303,14 @@ pages =
     -- bit 15 is the base's, bit 4 AP's
     ∷ (second 0x00008002 0, globalPage 8 0)
     ∷ (second 0x00008013 0, withXn (globalPage 8 1))
+    -- the domain of both is the table's, whatever their own bits 8..5 say
+    ∷ (secondIn 9 0x00000001 0, inDomain 9 (globalPage 0 0))
+    ∷ (secondIn 9 0x000001C1 0x3A5, inDomain 9 (globalPage 5 0))
+    ∷ (secondIn 6 0xFFFFFFFD 0, inDomain 6 (withXn (ownPage 0xFFFF0 7)))
+    ∷ (secondIn 9 0x00000002 0, inDomain 9 (globalPage 0 0))
+    ∷ (secondIn 9 0x000001C2 0, inDomain 9 (globalPage 0 0))
+    ∷ (secondIn 6 0xFFFFFFFF 0, inDomain 6 (withXn (ownPage 0xFFFFF 7)))
+    ∷ (secondIn 15 0 0, faultCode 0x7)
     -- no frame bit of a small page comes from the page
     ∷ (second 0x12340002 0x3A5, globalPage 0x12340 0)
     -- kind 0: no mapping
@@ -289,11 +330,11 @@ smallImage =
     (put 0x10 0x44332211 (put 0x14 0x88776655 zeros)))))))))))
 
 -- registers as one number, and those that an operation returned
-abbrev packed : ℕ → ℕ → ℕ → ℕ
-packed root context mode = root * 4096 + context * 16 + mode
+abbrev packed : ℕ → ℕ → ℕ → ℕ → ℕ
+packed root context mode domains = domains * 0x100000000000 + root * 4096 + context * 16 + mode
 
 abbrev returned : After → ℕ
-returned x = packed (x .registers .root) (x .registers .context) (x .registers .mode)
+returned x = packed (x .registers .root) (x .registers .context) (x .registers .mode) (x .registers .domains)
 
 -- two contexts and the global row, with every set empty
 abbrev emptyTrack : List ℕ
@@ -383,6 +424,8 @@ refusals small =
     ++ refusing 14 Mode 0 0 0 (given 0x80 2 0 small emptyTrack)
     ++ refusing 15 All 0 0 0 user
     ++ refusing 8 Fetch 0x400000 0 0 user
+    ++ refusing 17 Domain 2 0 0 kernel
+    ++ refusing 14 Mode 0 0 0 (givenWith 2 0x80 1 0 small emptyTrack)
     ++ refusing 16 Fetch 0x10 0 0 (given 0x80 1 0 small (set emptyTrack 1024 0x1602))
     ++ refusing 16 Read 0x10 4 0 (given 0x80 1 0 small (set emptyTrack 1024 0x1602))
     ++ refusing 16 Read 0x10 4 0 (given 0x80 1 0 small (set emptyTrack 2048 0x1682))
@@ -392,12 +435,15 @@ abbrev refusal : Check → ℕ
 refusal Pass = 0
 refusal (Refuse n) = refusalNumber n
 
--- what the checks say of an operation on m bytes of memory and t words of track
-abbrev checked : ℕ → ℕ → ℕ → ℕ → ℕ → Kind → ℕ → ℕ → ℕ → ℕ
-checked m t root context mode k a b c =
+-- what the checks say of an operation on m bytes of memory and t words of track; with each field of the domain register 1
+abbrev checkedWith : ℕ → ℕ → ℕ → ℕ → ℕ → ℕ → Kind → ℕ → ℕ → ℕ → ℕ
+checkedWith domains m t root context mode k a b c =
     let o : Operation = record { kind = k; a = a; b = b; c = c } in
-    let r : Registers = record { root = root; context = context; mode = mode } in
+    let r : Registers = record { root = root; context = context; mode = mode; domains = domains } in
     refusal (firstFailing (checks o r m t))
+
+abbrev checked : ℕ → ℕ → ℕ → ℕ → ℕ → Kind → ℕ → ℕ → ℕ → ℕ
+checked m t root context mode k a b c = checkedWith 0x55555555 m t root context mode k a b c
 
 -- the same in kernel and in user mode, with two contexts
 abbrev inKernel : Kind → ℕ → ℕ → ℕ → ℕ
@@ -405,6 +451,15 @@ inKernel k a b c = checked 4096 3072 0x80 1 0 k a b c
 
 abbrev inUser : Kind → ℕ → ℕ → ℕ → ℕ
 inUser k a b c = checked 4096 3072 0x80 1 1 k a b c
+
+-- with another domain register, in kernel mode
+abbrev holding : ℕ → Kind → ℕ → ℕ → ℕ → ℕ
+holding domains k a b c = checkedWith domains 4096 3072 0x80 1 0 k a b c
+
+-- each of the lowest n fields of a domain register alone 2: as the new value of `domain`, and held
+abbrev eachField2 : ℕ → ℕ → List (ℕ × ℕ)
+eachField2 zero w = []
+eachField2 (suc n) w = (inKernel Domain w 0 0, 17) ∷ (inUser Domain w 0 0, 17) ∷ (holding w Mode 0 0 0, 14) ∷ eachField2 n (w * 4)
 
 -- The condition of each refusal but 16, by the checks alone.
 conditions : List (ℕ × ℕ)
@@ -508,7 +563,44 @@ conditions =
     ∷ (inUser Ctx 0 0 0, 15)
     ∷ (inUser AddrCtx 0 0 0, 15)
     ∷ (inUser Fetch 0 0 0, 0)
+    ∷ (inUser Domain 0 0 0, 15)
     ∷ (inKernel All 0 0 0, 0)
+    ∷ (inKernel Domain 0 0 0, 0)
+    -- 17, and 14: a field 2, at each place, in fields 0 and 15 among them
+    ∷ eachField2 16 2
+    -- beside fields 1 and 3, and in all fields
+    ++ (inKernel Domain 0x55555556 0 0, 17)
+    ∷ (inKernel Domain 0x95555555 0 0, 17)
+    ∷ (inKernel Domain 0xFFFFFFFE 0 0, 17)
+    ∷ (inKernel Domain 0xBFFFFFFF 0 0, 17)
+    ∷ (inKernel Domain 0xAAAAAAAA 0 0, 17)
+    ∷ (inKernel Domain 0x22222222 0 0, 17)
+    ∷ (holding 0xAAAAAAAA Read 0 4 0, 14)
+    ∷ (holding 0x95555555 Fetch 0 0 0, 14)
+    ∷ (holding 0x55555556 Domain 0x55555555 0 0, 14)
+    -- no field 2: each 0, 1 or 3; the high bit of one field and the low bit of the next are none
+    ∷ (inKernel Domain 0x55555555 0 0, 0)
+    ∷ (inKernel Domain 0xFFFFFFFF 0 0, 0)
+    ∷ (inKernel Domain 0x77777777 0 0, 0)
+    ∷ (inKernel Domain 0x1D1D1D1D 0 0, 0)
+    ∷ (inKernel Domain 0xC0000003 0 0, 0)
+    ∷ (holding 0 Read 0 4 0, 0)
+    ∷ (holding 0xFFFFFFFF Write 0 4 0, 0)
+    ∷ (holding 0x1D1D1D1D Domain 0 0 0, 0)
+    -- 7 to 12 do not concern `domain`, which ignores b and c
+    ∷ (inKernel Domain 0x400000 3 0x100, 0)
+    ∷ (inKernel Domain 0x400001 0xFFFFFFFF 0xFFFFFFFF, 0)
+    -- 17 concerns no other operation
+    ∷ (inKernel Read 2 4 0, 0)
+    ∷ (inKernel Write 2 2 2, 0)
+    ∷ (inKernel Root 0x100 2 2, 0)
+    ∷ (inKernel Asid 0 2 2, 0)
+    ∷ (inKernel Mode 0 2 2, 0)
+    ∷ (inKernel All 2 2 2, 0)
+    ∷ (inKernel Addr 2 2 2, 0)
+    ∷ (inKernel Ctx 0 2 2, 0)
+    ∷ (inKernel AddrCtx 2 0 2, 0)
+    ∷ (inKernel Fetch 2 2 2, 0)
     ∷ []
 
 -- The order of the refusals.
@@ -530,6 +622,16 @@ order =
     ∷ (inUser Asid 2 0 0, 11)
     ∷ (inUser Ctx 2 0 0, 11)
     ∷ (inUser AddrCtx 0 2 0, 11)
+    -- 13 before 14, 14 before 17 and before 7, 17 before 15
+    ∷ (checkedWith 2 4095 3072 0x80 1 0 Domain 2 0 0, 13)
+    ∷ (holding 2 Domain 2 0 0, 14)
+    ∷ (holding 0x80000000 Domain 0x80000000 0 0, 14)
+    ∷ (holding 2 Read 0x400000 3 0, 14)
+    ∷ (holding 2 Fetch 0x400000 0 0, 14)
+    ∷ (checkedWith 2 4096 3072 0x80 1 1 Domain 0 0 0, 14)
+    ∷ (inUser Domain 2 0 0, 17)
+    ∷ (inUser Domain 0x80000000 0 0, 17)
+    ∷ (inUser Domain 0x55555555 0 0, 15)
     -- start: 13, 10, and 13 before 10
     ∷ (refusal (firstFailing (startChecks 4096 2048 0x80)), 0)
     ∷ (refusal (firstFailing (startChecks 4095 2048 0x80)), 13)
@@ -688,9 +790,9 @@ starting small =
     let start = started small (replicate 3072 7) 0x80 in
     let short = started (replicate 4095 5) (replicate 3072 7) 0x80 in
     let askew = started small (replicate 3072 7) 0x40 in
-    -- context 0, kernel mode, memory as found
+    -- context 0, kernel mode, each field of the domain register 1, memory as found
     (answered start, 0)
-    ∷ (returned start, packed 0x80 0 0)
+    ∷ (returned start, packed 0x80 0 0 0x55555555)
     ∷ (bit (same (start .memory) small), 1)
     -- the track emptied, then every page noted that the tables map, in context 0 alone
     ∷ (wordAt (start .track) 0 0, 0x602)
@@ -708,16 +810,16 @@ starting small =
     ∷ (wordAt (start .track) 2 0x3FF, 0)
     -- refused: zero registers, memory and track as found
     ∷ (answered short, refusalCode 13)
-    ∷ (returned short, packed 0 0 0)
+    ∷ (returned short, packed 0 0 0 0)
     ∷ (bit (same (short .memory) (replicate 4095 5)), 1)
     ∷ (bit (same (short .track) (replicate 3072 7)), 1)
     ∷ (answered askew, refusalCode 10)
-    ∷ (returned askew, packed 0 0 0)
+    ∷ (returned askew, packed 0 0 0 0)
     ∷ (bit (same (askew .memory) small), 1)
     ∷ (bit (same (askew .track) (replicate 3072 7)), 1)
     ∷ []
 
--- `asid`, `root` and `mode`, and the noting after them.
+-- `asid`, `root`, `mode` and `domain`, and the noting after them.
 registers : List ℕ → List (ℕ × ℕ)
 unfolding next
 registers small =
@@ -726,13 +828,17 @@ registers small =
     let moved = next Root 0x100 0 0 other in
     let user = next Mode 1 0 0 moved in
     let kernel = next Mode 0 0 0 user in
+    let opened = next Domain 0x7 0 0 kernel in
+    let kept = next Domain 0x2 0 0 opened in
+    let asked = next Domain 0x1 0 0 (next Mode 1 0 0 opened) in
     let empty = given 0x80 1 0 small emptyTrack in
     -- `asid` notes the row of the new context
     tracked other (0x602, 0x202, 0) (0x602, 0x202, 0) (0, 0, 0)
     -- `root` notes with the new root: page 0 gains a different entry, page 1 the same, page 2 its first
     ++ tracked moved (0x602, 0x202, 0) (1, 0x202, 0x6602) (0, 0, 0)
-    -- noting follows `mode`, a read, a write, a fetch and a fault
+    -- noting follows `mode`, `domain`, a read, a write, a fetch and a fault
     ++ tracked (next Mode 1 0 0 empty) (0, 0, 0) (0x602, 0x202, 0) (0, 0, 0)
+    ++ tracked (next Domain 0 0 0 empty) (0, 0, 0) (0x602, 0x202, 0) (0, 0, 0)
     ++ tracked (next Read 0x10 4 0 empty) (0, 0, 0) (0x602, 0x202, 0) (0, 0, 0)
     ++ tracked (next Write 0x10 4 0 empty) (0, 0, 0) (0x602, 0x202, 0) (0, 0, 0)
     ++ tracked (next Fetch 0x10 0 0 empty) (0, 0, 0) (0x602, 0x202, 0) (0, 0, 0)
@@ -740,15 +846,27 @@ registers small =
     ++ tracked (next Fetch 0x100001 0 0 empty) (0, 0, 0) (0x602, 0x202, 0) (0, 0, 0)
     -- and not a refusal
     ++ tracked (next Fetch 0x400000 0 0 empty) (0, 0, 0) (0, 0, 0) (0, 0, 0)
+    ++ tracked (next Domain 2 0 0 empty) (0, 0, 0) (0, 0, 0) (0, 0, 0)
     -- each answers 0 and sets its own register; `mode` does in both modes
     ++ (answered other, 0)
     ∷ (answered moved, 0)
     ∷ (answered user, 0)
     ∷ (answered kernel, 0)
-    ∷ (returned other, packed 0x80 1 0)
-    ∷ (returned moved, packed 0x100 1 0)
-    ∷ (returned user, packed 0x100 1 1)
-    ∷ (returned kernel, packed 0x100 1 0)
+    ∷ (answered opened, 0)
+    ∷ (returned other, packed 0x80 1 0 0x55555555)
+    ∷ (returned moved, packed 0x100 1 0 0x55555555)
+    ∷ (returned user, packed 0x100 1 1 0x55555555)
+    ∷ (returned kernel, packed 0x100 1 0 0x55555555)
+    ∷ (returned opened, packed 0x100 1 0 7)
+    ∷ (returned (next Domain 0xFFFFFFFF 1 2 opened), packed 0x100 1 0 0xFFFFFFFF)
+    -- the others leave the domain register, and a refused `domain` every register
+    ∷ (returned (next Root 0x80 0 0 opened), packed 0x80 1 0 7)
+    ∷ (returned (next Asid 0 0 0 opened), packed 0x100 0 0 7)
+    ∷ (returned (next Mode 1 0 0 opened), packed 0x100 1 1 7)
+    ∷ (answered kept, refusalCode 17)
+    ∷ (returned kept, packed 0x100 1 0 7)
+    ∷ (answered asked, refusalCode 15)
+    ∷ (returned asked, packed 0x100 1 1 7)
     -- under the new root pages 0 and 3 are stale: one has two entries, the other one entry and no mapping
     ∷ (wordAt (moved .track) 1 3, 0xE02)
     ∷ (answered (next Read 0x10 4 0 moved), refusalCode 16)
@@ -797,26 +915,57 @@ descriptors small =
     ∷ (answered (next Read 0x2010 4 0 mapped), 0x44332211)
     ∷ []
 
--- words of a context's row that are neither 0, nor 1, nor an entry's of that row: bit 1 clear, or a bit set that such an entry has clear,
--- bit 7 among them, without and with bit 8, and with bit 6
+-- words of a context's row that are neither 0, nor 1, nor an entry's of that row: bit 1 clear, bit 0 set or bit 7 set, without and with
+-- bit 8, bit 6 and bits of the domain
 abbrev oddWords : List ℕ
 oddWords =
-    0x1000 ∷ 0x1003 ∷ 0x1006 ∷ 0x100A ∷ 0x1012 ∷ 0x1022 ∷ 0x1082
-    ∷ 0x1100 ∷ 0x1103 ∷ 0x1106 ∷ 0x110A ∷ 0x1112 ∷ 0x1122 ∷ 0x1182
-    ∷ 0x1040 ∷ 0x1043 ∷ 0x1046 ∷ 0x104A ∷ 0x1052 ∷ 0x1062 ∷ 0x10C2 ∷ 0x11C2
+    0x1000 ∷ 0x1001 ∷ 0x1003 ∷ 0x1082
+    ∷ 0x1100 ∷ 0x1103 ∷ 0x1182
+    ∷ 0x1040 ∷ 0x1043 ∷ 0x10C2 ∷ 0x11C2
+    ∷ 0x1004 ∷ 0x1005 ∷ 0x1007 ∷ 0x1086 ∷ 0x103C ∷ 0x103D ∷ 0x103F ∷ 0x10BE ∷ 0x1020 ∷ 0x1023 ∷ 0x10A2
     ∷ 3 ∷ 4 ∷ 7 ∷ 0xFFFFFFFF ∷ []
 
 -- the same of the global row, whose entries have bit 7 set
 abbrev oddGlobalWords : List ℕ
 oddGlobalWords =
-    0x1080 ∷ 0x1083 ∷ 0x1086 ∷ 0x108A ∷ 0x1092 ∷ 0x10A2 ∷ 0x1002
-    ∷ 0x1180 ∷ 0x1183 ∷ 0x1186 ∷ 0x118A ∷ 0x1192 ∷ 0x11A2 ∷ 0x1102
-    ∷ 0x10C0 ∷ 0x10C3 ∷ 0x10C6 ∷ 0x10CA ∷ 0x10D2 ∷ 0x10E2 ∷ 0x1042 ∷ 0x1142
+    0x1080 ∷ 0x1081 ∷ 0x1083 ∷ 0x1002
+    ∷ 0x1180 ∷ 0x1183 ∷ 0x1102
+    ∷ 0x10C0 ∷ 0x10C3 ∷ 0x1042 ∷ 0x1142
+    ∷ 0x1084 ∷ 0x1085 ∷ 0x1087 ∷ 0x1006 ∷ 0x10BC ∷ 0x10BD ∷ 0x10BF ∷ 0x103E ∷ 0x10A0 ∷ 0x10A3 ∷ 0x1022
     ∷ 3 ∷ 4 ∷ 7 ∷ 0xFFFFFFFF ∷ []
 
--- the entry with frame 1 and AP 0 that a page gives, or a section, a context's own (0) or global (1), with XN clear or set
+-- the entry with frame 1 and AP 0 that a page gives, or a section, a context's own (0) or global (1), with XN clear or set, in a domain, and
+-- in domain 0
+abbrev entryIn : ℕ → ℕ → ℕ → ℕ → Entry
+entryIn d section global xn = record { frame = 1; ap = 0; section = section; global = global; xn = xn; domain = d }
+
 abbrev entry1 : ℕ → ℕ → ℕ → Entry
-entry1 section global xn = record { frame = 1; ap = 0; section = section; global = global; xn = xn }
+entry1 section global xn = entryIn 0 section global xn
+
+-- words of a row of kind g with bits of the domain set, without and with bits 8 and 6: each is that of the entry with these bits, one more
+-- beside that of domain 0, and makes its page stale by the domain alone
+abbrev inDomains : ℕ → List (ℕ × ℕ × ℕ) → List (ℕ × ℕ)
+inDomains g [] = []
+inDomains g (x ∷ xs) =
+    let w = 0x1002 + 128 * g + x .0 * 4 + x .1 * 256 + x .2 * 64 in
+    let other = 0x1002 + 128 * g + x .1 * 256 + x .2 * 64 in
+    (entryWord (entryIn (x .0) (x .1) g (x .2)), w)
+    ∷ (addEntry g 0 w, w)
+    ∷ (addEntry g w w, w)
+    ∷ (addEntry g w other, 1)
+    ∷ (addEntry g other w, 1)
+    ∷ (bit (staleWord g w (Mapped (entryIn (x .0) (x .1) g (x .2)))), 0)
+    ∷ (bit (staleWord g w (Mapped (entryIn 0 (x .1) g (x .2)))), 1)
+    ∷ (bit (staleWord g other (Mapped (entryIn (x .0) (x .1) g (x .2)))), 1)
+    ∷ (bit (staleWord g w (Failed SecondUnmapped)), 1)
+    ∷ inDomains g xs
+
+-- domains 1, 2, 4, 8 and 15, of a page, of a section, and of a page with XN
+abbrev someDomains : List (ℕ × ℕ × ℕ)
+someDomains =
+    (1, 0, 0) ∷ (2, 0, 0) ∷ (4, 0, 0) ∷ (8, 0, 0) ∷ (15, 0, 0)
+    ∷ (1, 1, 0) ∷ (2, 1, 0) ∷ (4, 1, 0) ∷ (8, 1, 0) ∷ (15, 1, 0)
+    ∷ (1, 0, 1) ∷ (2, 0, 1) ∷ (4, 0, 1) ∷ (8, 0, 1) ∷ (15, 0, 1) ∷ []
 
 -- whether a word of a row of kind g makes stale a page with this entry, of a page and of a section
 abbrev staleWith : ℕ → ℕ → ℕ → ℕ → List (ℕ × ℕ)
@@ -887,29 +1036,34 @@ inRowOf g =
 words : List ℕ → List (ℕ × ℕ)
 unfolding next
 words small =
-    let odd = given 0x80 0 0 small (7 ∷ 0x206 ∷ 0x1006 ∷ 3 ∷ replicate 2044 0) in
+    let odd = given 0x80 0 0 small (7 ∷ 0x207 ∷ 0x1007 ∷ 3 ∷ replicate 2044 0) in
     let noted = next Mode 0 0 0 odd in
     let cleared = next Addr 0 0 0 noted in
-    -- the word of one entry: frame in bits 31..12, AP in bits 11..9, section in bit 8, global in bit 7, XN in bit 6, bit 1 set
-    (entryWord (record { frame = 0; ap = 0; section = 0; global = 0; xn = 0 }), 0x00000002)
-    ∷ (entryWord (record { frame = 1; ap = 0; section = 0; global = 0; xn = 0 }), 0x00001002)
-    ∷ (entryWord (record { frame = 0x80000; ap = 0; section = 0; global = 0; xn = 0 }), 0x80000002)
-    ∷ (entryWord (record { frame = 0; ap = 1; section = 0; global = 0; xn = 0 }), 0x00000202)
-    ∷ (entryWord (record { frame = 0; ap = 4; section = 0; global = 0; xn = 0 }), 0x00000802)
-    ∷ (entryWord (record { frame = 0; ap = 0; section = 1; global = 0; xn = 0 }), 0x00000102)
-    ∷ (entryWord (record { frame = 0; ap = 0; section = 0; global = 1; xn = 0 }), 0x00000082)
-    ∷ (entryWord (record { frame = 0; ap = 0; section = 0; global = 0; xn = 1 }), 0x00000042)
-    ∷ (entryWord (record { frame = 0xFFFFF; ap = 7; section = 1; global = 1; xn = 0 }), 0xFFFFFF82)
-    ∷ (entryWord (record { frame = 0xFFFFF; ap = 7; section = 1; global = 1; xn = 1 }), 0xFFFFFFC2)
+    let domain1 = given 0x80 0 0 small (0 ∷ 0x206 ∷ 0x1006 ∷ replicate 2045 0) in
+    -- the word of one entry: frame in bits 31..12, AP in bits 11..9, section in bit 8, global in bit 7, XN in bit 6, domain in bits 5..2,
+    -- bit 1 set
+    (entryWord (record { frame = 0; ap = 0; section = 0; global = 0; xn = 0; domain = 0 }), 0x00000002)
+    ∷ (entryWord (record { frame = 1; ap = 0; section = 0; global = 0; xn = 0; domain = 0 }), 0x00001002)
+    ∷ (entryWord (record { frame = 0x80000; ap = 0; section = 0; global = 0; xn = 0; domain = 0 }), 0x80000002)
+    ∷ (entryWord (record { frame = 0; ap = 1; section = 0; global = 0; xn = 0; domain = 0 }), 0x00000202)
+    ∷ (entryWord (record { frame = 0; ap = 4; section = 0; global = 0; xn = 0; domain = 0 }), 0x00000802)
+    ∷ (entryWord (record { frame = 0; ap = 0; section = 1; global = 0; xn = 0; domain = 0 }), 0x00000102)
+    ∷ (entryWord (record { frame = 0; ap = 0; section = 0; global = 1; xn = 0; domain = 0 }), 0x00000082)
+    ∷ (entryWord (record { frame = 0; ap = 0; section = 0; global = 0; xn = 1; domain = 0 }), 0x00000042)
+    ∷ (entryWord (record { frame = 0xFFFFF; ap = 7; section = 1; global = 1; xn = 0; domain = 0 }), 0xFFFFFF82)
+    ∷ (entryWord (record { frame = 0xFFFFF; ap = 7; section = 1; global = 1; xn = 1; domain = 0 }), 0xFFFFFFC2)
+    ∷ (entryWord (record { frame = 0; ap = 0; section = 0; global = 0; xn = 0; domain = 1 }), 0x00000006)
+    ∷ (entryWord (record { frame = 0; ap = 0; section = 0; global = 0; xn = 0; domain = 8 }), 0x00000022)
+    ∷ (entryWord (record { frame = 0xFFFFF; ap = 7; section = 1; global = 1; xn = 1; domain = 15 }), 0xFFFFFFFE)
     -- a section and a page with the same frame and AP, own and global
-    ∷ (entryWord (record { frame = 0x123; ap = 3; section = 1; global = 0; xn = 0 }), 0x00123702)
-    ∷ (entryWord (record { frame = 0x123; ap = 3; section = 0; global = 0; xn = 0 }), 0x00123602)
-    ∷ (entryWord (record { frame = 0x123; ap = 3; section = 1; global = 1; xn = 0 }), 0x00123782)
-    ∷ (entryWord (record { frame = 0x123; ap = 3; section = 0; global = 1; xn = 0 }), 0x00123682)
+    ∷ (entryWord (record { frame = 0x123; ap = 3; section = 1; global = 0; xn = 0; domain = 0 }), 0x00123702)
+    ∷ (entryWord (record { frame = 0x123; ap = 3; section = 0; global = 0; xn = 0; domain = 0 }), 0x00123602)
+    ∷ (entryWord (record { frame = 0x123; ap = 3; section = 1; global = 1; xn = 0; domain = 0 }), 0x00123782)
+    ∷ (entryWord (record { frame = 0x123; ap = 3; section = 0; global = 1; xn = 0; domain = 0 }), 0x00123682)
     -- by steps: odd words stay under noting, and make their pages stale
     ∷ (wordAt (noted .track) 0 0, 7)
-    ∷ (wordAt (noted .track) 0 1, 0x206)
-    ∷ (wordAt (noted .track) 0 2, 0x1006)
+    ∷ (wordAt (noted .track) 0 1, 0x207)
+    ∷ (wordAt (noted .track) 0 2, 0x1007)
     ∷ (wordAt (noted .track) 0 3, 3)
     ∷ (answered (next Read 0x10 4 0 noted), refusalCode 16)
     ∷ (answered (next Read 0x1010 4 0 noted), refusalCode 16)
@@ -917,16 +1071,23 @@ words small =
     ∷ (answered (next Read 0x3010 4 0 noted), refusalCode 16)
     -- and go with a flush that names them
     ∷ (wordAt (cleared .track) 0 0, 0x602)
-    ∷ (wordAt (cleared .track) 0 1, 0x206)
+    ∷ (wordAt (cleared .track) 0 1, 0x207)
     ∷ (answered (next Read 0x10 4 0 cleared), 0x44332211)
     ∷ (wordAt (next Addr 0x2000 0 0 noted .track) 0 2, 0)
     ∷ (wordAt (next Ctx 0 0 0 noted .track) 0 3, 0xE02)
     -- a sole entry of another AP makes its page stale, the tables' own does not
     ∷ (answered (next Read 0x1010 4 0 (given 0x80 0 0 small (0 ∷ 0x602 ∷ replicate 2046 0))), refusalCode 16)
     ∷ (answered (next Read 0x1010 4 0 (given 0x80 0 0 small (0 ∷ 0x202 ∷ replicate 2046 0))), 0x44332211)
+    -- so does one of another domain; noting adds the tables' own beside it, and nothing where they map nothing
+    ∷ (answered (next Read 0x1010 4 0 domain1), refusalCode 16)
+    ∷ (answered (next Read 0x2010 4 0 domain1), refusalCode 16)
+    ∷ (wordAt (next Mode 0 0 0 domain1 .track) 0 1, 1)
+    ∷ (wordAt (next Mode 0 0 0 domain1 .track) 0 2, 0x1006)
     -- by words: in a context's row, and in the global row
     ∷ inRowOf 0
     ++ inRowOf 1
+    ++ inDomains 0 someDomains
+    ++ inDomains 1 someDomains
     ++ staysOdd 0 oddWords
     ++ staysOdd 1 oddGlobalWords
 

@@ -9,7 +9,7 @@ use native.Mathlib.Omega.{arith}
 use lib.ListN.{length, getD, replicate, length-replicate}
 use Rattle.model.specs.Limits.{pageSize}
 use Rattle.model.specs.Numbers.{Result, ok, fault, refused, shown}
-use Rattle.model.specs.reference.Rules.{Translation, State, fresh, outcome, carriedOut, plainStep, walk, descriptor, tableWord, section, bits, value, inMemory, effect, access, translated, touched, aligned, accessSize, mayRead, mayWrite, permits, rightOf, physical, among, accesses, trackWord, stale, kept, differs, conditions, Given, refuses16, setRegisters, chipOutcome, orWalk, chipStep, moves, move, isFree, heldFor, putIn, flushPlace, flushes, anyClash, matches, covers, heldScope, scopeOf, globalBy, Scope, own, global}
+use Rattle.model.specs.reference.Rules.{Translation, State, fresh, outcome, carriedOut, plainStep, walk, descriptor, tableWord, section, bits, value, inMemory, effect, access, translated, touched, aligned, accessSize, mayRead, mayWrite, permits, fieldOf, ruling, ruled, rightOf, physical, among, accesses, trackWord, stale, kept, differs, conditions, Given, refuses16, setRegisters, chipOutcome, orWalk, chipStep, moves, move, isFree, heldFor, putIn, flushPlace, flushes, anyClash, matches, covers, heldScope, scopeOf, globalBy, domainOf, Scope, own, global}
 use Rattle.model.specs.reference.Runs.{Checker, next, checkerRun, isRefused, seen, told, plainRun, chipStart, chipNext, chipRun, chipSeen}
 use Rattle.model.specs.step.Checks.{checks}
 use Rattle.model.specs.step.Machine.{After, turnedBack, started, stepped}
@@ -76,7 +76,7 @@ userStart = record { start = λ i t root. inUserMode (started i t root); step = 
     inUserMode : After → After
     inUserMode x = record {
       answer = x .answer;
-      registers = record { root = x .registers .root; context = x .registers .context; mode = 1 };
+      registers = record { root = x .registers .root; context = x .registers .context; mode = 1; domains = x .registers .domains };
       memory = x .memory;
       track = x .track;
     }
@@ -125,7 +125,7 @@ unfolding readsZero readOnce headAnswer session image track0 readPage2 checkerRu
 zero-read = refl
 
 seven-read : headAnswer (plainRunOf readsZero readOnce) ≡ some (ok 7)
-unfolding readsZero readOnce headAnswer session image track0 readPage2 told isRefused stepOn plainRun plainStep carriedOut effect access translated touched aligned accessSize among mayRead mayWrite permits rightOf physical fresh outcome walk descriptor tableWord section bits value inMemory
+unfolding readsZero readOnce headAnswer session image track0 readPage2 told isRefused stepOn plainRun plainStep carriedOut effect access translated touched aligned accessSize among mayRead mayWrite permits fieldOf ruling ruled rightOf physical fresh outcome walk descriptor tableWord section domainOf bits value inMemory
 seven-read = refl
 
 pub reads-zero-refuted : SamePlain readsZero → ⊥
@@ -151,7 +151,7 @@ unfolding thirdAnswer headAnswer plainRun plainStep carriedOut effect setRegiste
 plain-faults = refl
 
 chip-reads : thirdAnswer (map chipSeen (chipRun (chipStart 1 (fresh image 0) []) readAfter afterFirst)) ≡ some (ok 7)
-unfolding thirdAnswer headAnswer chipRun chipStart chipNext chipStep chipSeen chipOutcome orWalk effect setRegisters access translated touched aligned accessSize among mayRead mayWrite permits rightOf physical fresh moves move isFree heldFor matches anyClash putIn outcome walk descriptor tableWord section globalBy bits value inMemory heldScope scopeOf covers flushPlace flushes readPage2 toRoot image afterFirst
+unfolding thirdAnswer headAnswer chipRun chipStart chipNext chipStep chipSeen chipOutcome orWalk effect setRegisters access translated touched aligned accessSize among mayRead mayWrite permits fieldOf ruling ruled rightOf physical fresh moves move isFree heldFor matches anyClash putIn outcome walk descriptor tableWord section globalBy domainOf bits value inMemory heldScope scopeOf covers flushPlace flushes readPage2 toRoot image afterFirst
 chip-reads = refl
 
 faults-reads : _≡_ {A = Option Result} (some (fault 0x5)) (some (ok 7)) → ⊥

@@ -10,7 +10,7 @@ use mir.Val.{hasKey}
 use types.Run.{OneOf, miss}
 use Rattle.model.proofs.Kind.{the-type}
 use Rattle.model.specs.declared.Kind.{Kind}
-use Rattle.model.specs.declared.Kind.the-variants.{Read, Write, Root, Asid, Mode, All, Addr, Ctx, AddrCtx, Fetch}
+use Rattle.model.specs.declared.Kind.the-variants.{Read, Write, Root, Asid, Mode, All, Addr, Ctx, AddrCtx, Fetch, Domain}
 use Rattle.model.specs.declared.Refusal.{Refusal}
 use Rattle.model.specs.declared.Check.{Check}
 use Rattle.model.specs.declared.Check.the-variants.{Pass, Refuse}
@@ -40,7 +40,7 @@ one-of ks x P true e w h = w
 one-of ks x P false e w h = absurd (miss ks x (subst (λ (t : Bool). T (not t)) (sym e) tt) h)
 
 abbrev pub Each : List ℕ → (Kind → Type 0) → Type 0
-Each ks P = When (hasKey ks 0) (P Read) × (When (hasKey ks 1) (P Write) × (When (hasKey ks 2) (P Root) × (When (hasKey ks 3) (P Asid) × (When (hasKey ks 4) (P Mode) × (When (hasKey ks 5) (P All) × (When (hasKey ks 6) (P Addr) × (When (hasKey ks 7) (P Ctx) × (When (hasKey ks 8) (P AddrCtx) × When (hasKey ks 9) (P Fetch)))))))))
+Each ks P = When (hasKey ks 0) (P Read) × (When (hasKey ks 1) (P Write) × (When (hasKey ks 2) (P Root) × (When (hasKey ks 3) (P Asid) × (When (hasKey ks 4) (P Mode) × (When (hasKey ks 5) (P All) × (When (hasKey ks 6) (P Addr) × (When (hasKey ks 7) (P Ctx) × (When (hasKey ks 8) (P AddrCtx) × (When (hasKey ks 9) (P Fetch) × When (hasKey ks 10) (P Domain))))))))))
 
 pub others : (ks : List ℕ) (P : Kind → Type 0) → Each ks P → (k : Kind) → OneOf ks (tagOf the-type k) → P k
 others ks P w Read = one-of ks 0 (P Read) _ refl (w .0)
@@ -52,4 +52,5 @@ others ks P w All = one-of ks 5 (P All) _ refl (w .1 .1 .1 .1 .1 .0)
 others ks P w Addr = one-of ks 6 (P Addr) _ refl (w .1 .1 .1 .1 .1 .1 .0)
 others ks P w Ctx = one-of ks 7 (P Ctx) _ refl (w .1 .1 .1 .1 .1 .1 .1 .0)
 others ks P w AddrCtx = one-of ks 8 (P AddrCtx) _ refl (w .1 .1 .1 .1 .1 .1 .1 .1 .0)
-others ks P w Fetch = one-of ks 9 (P Fetch) _ refl (w .1 .1 .1 .1 .1 .1 .1 .1 .1)
+others ks P w Fetch = one-of ks 9 (P Fetch) _ refl (w .1 .1 .1 .1 .1 .1 .1 .1 .1 .0)
+others ks P w Domain = one-of ks 10 (P Domain) _ refl (w .1 .1 .1 .1 .1 .1 .1 .1 .1 .1)

@@ -2,7 +2,8 @@
 ghost use mathlib.Core.Path.{_≡_};
 ghost use Prim.Native.Nat.{_<_};
 ghost use Rattle.model.specs.Numbers.{refusalNumber};
-ghost use Rattle.model.specs.step.Checks.{sizeFits, addressFits, valueFits, newRootFits, contextFits, modeFits, mayAsk, checks, startChecks, firstFailing, Says};
+ghost use Rattle.model.specs.step.Checks.{sizeFits, addressFits, valueFits, newRootFits, contextFits, modeFits, newDomainsFit, mayAsk, checks, startChecks, firstFailing, Says};
+use limits::domains_fit;
 use limits::fits_size;
 use limits::is_size;
 use limits::last_row;
@@ -82,6 +83,16 @@ pub fn mode_fits(kind: Kind, a: u32) -> bool
     }
 }
 
+// Whether no field of a new domain register is 2.
+pub fn new_domains_fit(kind: Kind, a: u32) -> bool
+    ensures { λ r. ⌜ r ≡ newDomainsFit kind a ⌝ }
+{
+    match kind {
+        Kind::Domain => domains_fit(a),
+        _ => true,
+    }
+}
+
 // Whether an operation may be asked for in this mode.
 pub fn may_ask(kind: Kind, mode: u32) -> bool
     ensures { λ r. ⌜ r ≡ mayAsk kind mode ⌝ }
@@ -109,6 +120,7 @@ pub fn check(o: Operation, r: Registers, m: usize, t: usize) -> Check
     let root = new_root_fits(kind, o.a);
     let context = context_fits(kind, o.a, o.b, contexts);
     let mode = mode_fits(kind, o.a);
+    let domains = new_domains_fit(kind, o.a);
     let asked = may_ask(kind, r.mode);
     if !lengths {
         return Check::Refuse(Refusal::WrongLengths);
@@ -133,6 +145,9 @@ pub fn check(o: Operation, r: Registers, m: usize, t: usize) -> Check
     }
     if !mode {
         return Check::Refuse(Refusal::WrongMode);
+    }
+    if !domains {
+        return Check::Refuse(Refusal::WrongDomains);
     }
     if !asked {
         return Check::Refuse(Refusal::UserMode);
@@ -168,5 +183,6 @@ pub fn refusal_number(n: Refusal) -> u32
         Refusal::WrongRegisters => 14,
         Refusal::UserMode => 15,
         Refusal::StalePage => 16,
+        Refusal::WrongDomains => 17,
     }
 }

@@ -20,32 +20,45 @@ byte at x = getD (x .memory) at 0
 abbrev track : List ℕ
 track = replicate 3072 0
 
--- an operation's four words and three registers, on image A
+-- an operation's four words and four registers, on image A
 abbrev called : ℕ → ℕ → ℕ → ℕ → List ℕ → Called
 called kind a b c registers = stepCall (kind ∷ a ∷ b ∷ c ∷ []) registers imageA track
 
 pub callCases : List (ℕ × ℕ)
 callCases =
-    let kernel : List ℕ = 0 ∷ 0 ∷ 0 ∷ [] in
-    let started = startCall zeros track 0x80 (9 ∷ 9 ∷ 9 ∷ []) in
+    let kernel : List ℕ = 0 ∷ 0 ∷ 0 ∷ 0x55555555 ∷ [] in
+    let closed : List ℕ = 0 ∷ 0 ∷ 0 ∷ 0x55555554 ∷ [] in
+    let started = startCall zeros track 0x80 (9 ∷ 9 ∷ 9 ∷ 9 ∷ []) in
+    let refused = startCall zeros track 0x81 (9 ∷ 9 ∷ 9 ∷ 9 ∷ []) in
     let rooted = called 2 0x100 0 0 kernel in
     let switched = called 3 1 0 0 kernel in
     let user = called 4 1 0 0 kernel in
-    -- a start gives root, context 0 and kernel mode
+    let opened = called 10 0x3 0 0 kernel in
+    -- a start gives root, context 0, kernel mode, and each field of the domain register 1
     (started .number, 0)
     ∷ (register 0 started, 0x80)
     ∷ (register 1 started, 0)
     ∷ (register 2 started, 0)
-    -- refused: 10
-    ∷ (startCall zeros track 0x81 kernel .number, 0x20000000A)
-    -- two words are no registers
-    ∷ (startCall zeros track 0 (0 ∷ 0 ∷ []) .number, 0x300000000)
-    -- root, context and mode are the first, the second and the third register
+    ∷ (register 3 started, 0x55555555)
+    -- refused: 10, with zero registers
+    ∷ (refused .number, 0x20000000A)
+    ∷ (register 0 refused, 0)
+    ∷ (register 1 refused, 0)
+    ∷ (register 2 refused, 0)
+    ∷ (register 3 refused, 0)
+    -- three words are no registers, and neither are five
+    ∷ (startCall zeros track 0 (0 ∷ 0 ∷ 0 ∷ []) .number, 0x300000000)
+    ∷ (startCall zeros track 0 (0 ∷ 0 ∷ 0 ∷ 0 ∷ 0 ∷ []) .number, 0x300000000)
+    ∷ (called 0 0x1000 4 0 (0 ∷ 0 ∷ 0 ∷ []) .number, 0x300000000)
+    -- root, context, mode and domains are the first, the second, the third and the fourth register
     ∷ (register 0 rooted, 0x100)
     ∷ (register 1 switched, 1)
     ∷ (register 2 user, 1)
-    ∷ (called 8 0 0 0 (0 ∷ 0 ∷ 1 ∷ []) .number, 0x20000000F)
-    ∷ (called 0 0 4 0 (0 ∷ 2 ∷ 0 ∷ []) .number, 0x20000000E)
+    ∷ (register 3 opened, 3)
+    ∷ (register 3 rooted, 0x55555555)
+    ∷ (called 8 0 0 0 (0 ∷ 0 ∷ 1 ∷ 0 ∷ []) .number, 0x20000000F)
+    ∷ (called 0 0 4 0 (0 ∷ 2 ∷ 0 ∷ 0 ∷ []) .number, 0x20000000E)
+    ∷ (called 0 0 4 0 (0 ∷ 0 ∷ 0 ∷ 2 ∷ []) .number, 0x20000000E)
     -- two rows are one context, and one row is no track: 13
     ∷ (startCall zeros (replicate 2048 0) 0x80 kernel .number, 0)
     ∷ (startCall zeros (replicate 1024 0) 0x80 kernel .number, 0x20000000D)
@@ -61,12 +74,16 @@ callCases =
     -- a fetch: the address is the second word, the others are ignored; its value, fault 1 and refusal 8
     ∷ (called 9 0x1000 0 0 kernel .number, 0x12345678)
     ∷ (called 9 0x1000 3 0xFFFFFFFF kernel .number, 0x12345678)
-    ∷ (called 9 0x1000 0 0 (0 ∷ 0 ∷ 1 ∷ []) .number, 0x12345678)
+    ∷ (called 9 0x1000 0 0 (0 ∷ 0 ∷ 1 ∷ 0x55555555 ∷ []) .number, 0x12345678)
     ∷ (called 9 0x1002 0 0 kernel .number, 0x100000001)
     ∷ (called 9 0x400001 0 0 kernel .number, 0x200000008)
+    -- `domain`: the value is the second word, the others are ignored; fault 0xB while the domain is closed, and refusal 17
+    ∷ (called 10 0x3 7 0xFFFFFFFF kernel .number, 0)
+    ∷ (called 0 0x1000 4 0 closed .number, 0x10000000B)
+    ∷ (called 10 0x2 0 0 kernel .number, 0x200000011)
     -- refused: 7; and no such kind
     ∷ (called 0 0x1000 3 0 kernel .number, 0x200000007)
-    ∷ (called 10 0 0 0 kernel .number, 0x300000000)
+    ∷ (called 11 0 0 0 kernel .number, 0x300000000)
     ∷ []
 
 pub call-cases : allMatch callCases ≡ true
@@ -93,6 +110,12 @@ walkCases =
     ∷ (walkAnswer (put 0x404 0x3833 imageA) 0 0x1000, 0x3642)
     ∷ (walkAnswer (put 0x404 0x8831 imageA) 0 0x1000, 0x1642)
     ∷ (walkAnswer (put 0x8 0x30020C12 imageA) 0 0x2AB000, 0x300AB742)
+    -- and the domain in bits 5..2: a section's bits 8..5, and those of the word that points to a page's table
+    ∷ (walkAnswer (put 0x8 0x30020CA2 imageA) 0 0x2AB000, 0x300AB716)
+    ∷ (walkAnswer (put 0x8 0x30020DE2 imageA) 0 0x2AB000, 0x300AB73E)
+    ∷ (walkAnswer (put 0x0 0x4A1 imageA) 0 0x1000, 0x3616)
+    ∷ (walkAnswer (put 0x0 0x5E1 imageA) 0 0x1000, 0x363E)
+    ∷ (walkAnswer (put 0x404 0x39F2 imageA) 0 0x1000, 0x3602)
     -- the faults of the walk: 0xC, 5, 0xE and 7
     ∷ (walkAnswer imageA 0x8000 0, 0x10000000C)
     ∷ (walkAnswer imageA 0 0x100000, 0x100000005)

@@ -9,7 +9,7 @@ use borrow.Author.Tests.{eqb-true, eq-eqb, ne-eqb}
 use Rattle.model.proofs.BoolLaws.{allBelow, at-each}
 use Rattle.model.specs.Numbers.{kindNumber}
 use Rattle.model.specs.declared.Kind.{Kind}
-use Rattle.model.specs.declared.Kind.the-variants.{Read, Write, Root, Asid, Mode, All, Addr, Ctx, AddrCtx, Fetch}
+use Rattle.model.specs.declared.Kind.the-variants.{Read, Write, Root, Asid, Mode, All, Addr, Ctx, AddrCtx, Fetch, Domain}
 use Rattle.model.specs.declared.Operation.{Operation}
 use Rattle.model.specs.declared.Registers.{Registers}
 use Rattle.model.specs.declared.Returned.{Returned}
@@ -36,29 +36,29 @@ module _ (o r m t : List ℕ) where
   unfolding stepCall
   step-not w = rw w (record { number = refl; registers = refl; memory = refl; track = refl })
 
-  pub three : areWords o r ≡ true → length r ≡ 3
+  pub four : areWords o r ≡ true → length r ≡ 4
   unfolding areWords
-  three w = go (eqb (length o) 4) (eqb (length r) 3) refl w
+  four w = go (eqb (length o) 4) (eqb (length r) 4) refl w
     where
-      go : (a b : Bool) → eqb (length r) 3 ≡ b → cond a (cond b (ltb (getD o 0 0) 10) false) false ≡ true → length r ≡ 3
-      go true true e p = eqb-true (length r) 3 e
+      go : (a b : Bool) → eqb (length r) 4 ≡ b → cond a (cond b (ltb (getD o 0 0) 11) false) false ≡ true → length r ≡ 4
+      go true true e p = eqb-true (length r) 4 e
       go true false e p = absurd (true≢false (sym p))
       go false b e p = absurd (true≢false (sym p))
 
 module _ (m t : List ℕ) (root : ℕ) (r : List ℕ) where
-  pub start-left : (y : Returned) (x : ℕ) (r′ t′ : List ℕ) → length r ≡ 3 → Gives (started m t root) y m t′ → r′ ≡ registersInto r (y .registers) → x ≡ answerNumber (y .answer) →
+  pub start-left : (y : Returned) (x : ℕ) (r′ t′ : List ℕ) → length r ≡ 4 → Gives (started m t root) y m t′ → r′ ≡ registersInto r (y .registers) → x ≡ answerNumber (y .answer) →
       Left (startCall m t root r) x r′ m t′
   unfolding startCall
-  start-left y x r′ t′ e h i j = rw (eq-eqb (length r) 3 e) (left-called (started m t root) y x r r′ m t′ h i j)
+  start-left y x r′ t′ e h i j = rw (eq-eqb (length r) 4 e) (left-called (started m t root) y x r r′ m t′ h i j)
 
-  pub start-not : (length r ≡ 3 → ⊥) → Left (startCall m t root r) 0x300000000 r m t
+  pub start-not : (length r ≡ 4 → ⊥) → Left (startCall m t root r) 0x300000000 r m t
   unfolding startCall
-  start-not n = rw (ne-eqb (length r) 3 n) (record { number = refl; registers = refl; memory = refl; track = refl })
+  start-not n = rw (ne-eqb (length r) 4 n) (record { number = refl; registers = refl; memory = refl; track = refl })
 
--- the kind with a number below 10 has that number: one test over the ten
-kind-back : (n : ℕ) → n < 10 → kindNumber (kindFrom n) ≡ n
+-- the kind with a number below 11 has that number: one test over the eleven
+kind-back : (n : ℕ) → n < 11 → kindNumber (kindFrom n) ≡ n
 unfolding kindFrom allBelow
-kind-back n h = eqb-true (kindNumber (kindFrom n)) n (at-each 10 (λ i. eqb (kindNumber (kindFrom i)) i) refl n h)
+kind-back n h = eqb-true (kindNumber (kindFrom n)) n (at-each 11 (λ i. eqb (kindNumber (kindFrom i)) i) refl n h)
 
 pub kind-numbers : KindNumbers
 unfolding kindFrom
@@ -75,3 +75,4 @@ kind-numbers = record { there = there; back = kind-back }
     there Ctx = refl
     there AddrCtx = refl
     there Fetch = refl
+    there Domain = refl

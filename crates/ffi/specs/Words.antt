@@ -9,7 +9,7 @@ use Rattle.model.specs.Numbers.{kindNumber, Result, ok, fault, refused, shown}
 use Rattle.model.specs.step.Machine.{After, stepped, started}
 use Rattle.model.specs.declared.Answer.{Answer}
 use Rattle.model.specs.declared.Kind.{Kind}
-use Rattle.model.specs.declared.Kind.the-variants.{Read, Write, Root, Asid, Mode, All, Addr, Ctx, AddrCtx, Fetch}
+use Rattle.model.specs.declared.Kind.the-variants.{Read, Write, Root, Asid, Mode, All, Addr, Ctx, AddrCtx, Fetch, Domain}
 use Rattle.model.specs.declared.Operation.{Operation}
 use Rattle.model.specs.declared.Registers.{Registers}
 
@@ -24,23 +24,24 @@ kindFrom k =
     (cond (eqb k 5) All
     (cond (eqb k 6) Addr
     (cond (eqb k 7) Ctx
-    (cond (eqb k 8) AddrCtx Fetch))))))))
+    (cond (eqb k 8) AddrCtx
+    (cond (eqb k 9) Fetch Domain)))))))))
 
 -- Kinds have the numbers of the rules, one to one.
 pub record KindNumbers : Type 0 where
   pub there : (k : Kind) → kindFrom (kindNumber k) ≡ k
-  pub back : (n : ℕ) → n < 10 → kindNumber (kindFrom n) ≡ n
+  pub back : (n : ℕ) → n < 11 → kindNumber (kindFrom n) ≡ n
 
 -- kind, a, b and c as four words
 unfoldable pub operationFrom : List ℕ → Operation
 operationFrom o = record { kind = kindFrom (getD o 0 0); a = getD o 1 0; b = getD o 2 0; c = getD o 3 0 }
 
--- root, context and mode as three words
+-- root, context, mode and domains as four words
 unfoldable pub registersFrom : List ℕ → Registers
-registersFrom r = record { root = getD r 0 0; context = getD r 1 0; mode = getD r 2 0 }
+registersFrom r = record { root = getD r 0 0; context = getD r 1 0; mode = getD r 2 0; domains = getD r 3 0 }
 
 unfoldable pub registersInto : List ℕ → Registers → List ℕ
-registersInto l x = set (set (set l 0 (x .root)) 1 (x .context)) 2 (x .mode)
+registersInto l x = set (set (set (set l 0 (x .root)) 1 (x .context)) 2 (x .mode)) 3 (x .domains)
 
 -- a result of the rules as one number: the value, a fault above every value, a refusal above every fault
 abbrev pub resultNumber : Result → ℕ
@@ -74,10 +75,10 @@ notCalled r m t = record { number = 0x300000000; registers = r; memory = m; trac
 
 -- whether these are the words of an operation, and of registers
 unfoldable pub areWords : List ℕ → List ℕ → Bool
-areWords o r = cond (eqb (length o) 4) (cond (eqb (length r) 3) (ltb (getD o 0 0) 10) false) false
+areWords o r = cond (eqb (length o) 4) (cond (eqb (length r) 4) (ltb (getD o 0 0) 11) false) false
 
 unfoldable pub stepCall : List ℕ → List ℕ → List ℕ → List ℕ → Called
 stepCall o r m t = cond (areWords o r) (called (stepped (operationFrom o) (registersFrom r) m t) r) (notCalled r m t)
 
 unfoldable pub startCall : List ℕ → List ℕ → ℕ → List ℕ → Called
-startCall m t root r = cond (eqb (length r) 3) (called (started m t root) r) (notCalled r m t)
+startCall m t root r = cond (eqb (length r) 4) (called (started m t root) r) (notCalled r m t)

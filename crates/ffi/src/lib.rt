@@ -38,7 +38,10 @@ fn kind_from(k: u32) -> Kind
     if k == 8 {
         return Kind::AddrCtx;
     }
-    Kind::Fetch
+    if k == 9 {
+        return Kind::Fetch;
+    }
+    Kind::Domain
 }
 
 // A word of a slice, or 0.
@@ -63,7 +66,7 @@ fn operation_from(o: &[u32]) -> Operation
     }
 }
 
-// The registers in three words: root, context and mode.
+// The registers in four words: root, context, mode and domains.
 fn registers_from(r: &[u32]) -> Registers
     ensures { λ x. ⌜ x ≡ registersFrom (now (r .entry)) ⌝ }
 {
@@ -71,17 +74,19 @@ fn registers_from(r: &[u32]) -> Registers
         root: word(r, 0),
         context: word(r, 1),
         mode: word(r, 2),
+        domains: word(r, 3),
     }
 }
 
-// Puts registers into three words.
+// Puts registers into four words.
 fn registers_into(r: &mut [u32], x: Registers)
-    requires { ⌜ length (now r) ≡ 3 ⌝ }
+    requires { ⌜ length (now r) ≡ 4 ⌝ }
     ensures { λ _. ⌜ now (r .exit) ≡ registersInto (now (r .entry)) x ⌝ }
 {
     r[0] = x.root;
     r[1] = x.context;
     r[2] = x.mode;
+    r[3] = x.domains;
 }
 
 // An answer as a number: the value, 0x100000000 plus a fault, or 0x200000000 plus a refusal.
@@ -95,21 +100,21 @@ fn answer_number(x: Answer) -> u64
     }
 }
 
-// Whether there are four words with a kind, and three.
+// Whether there are four words with a kind, and four.
 fn are_words(o: &[u32], r: &[u32]) -> bool
     ensures { λ x. ⌜ x ≡ areWords (now (o .entry)) (now (r .entry)) ⌝ }
 {
     if o.len() == 4 {
-        if r.len() == 3 {
-            return word(o, 0) < 10;
+        if r.len() == 4 {
+            return word(o, 0) < 11;
         }
         return false;
     }
     false
 }
 
-// One operation: kind, a, b and c in `o`; root, context and mode in `r`, which holds the registers returned afterwards. Words that are
-// no operation or no registers give 0x300000000 and change nothing.
+// One operation: kind, a, b and c in `o`; root, context, mode and domains in `r`, which holds the registers returned afterwards. Words
+// that are no operation or no registers give 0x300000000 and change nothing.
 #[no_mangle]
 pub extern "C" fn machine_step(o: &[u32], r: &mut [u32], m: &mut [u8], t: &mut [u32]) -> u64
     ensures { λ x. ⌜ Left (stepCall (now (o .entry)) (now (r .entry)) (now (m .entry)) (now (t .entry))) x (now (r .exit)) (now (m .exit)) (now (t .exit)) ⌝ }
@@ -131,7 +136,7 @@ pub extern "C" fn machine_step(o: &[u32], r: &mut [u32], m: &mut [u8], t: &mut [
 pub extern "C" fn machine_start(m: &[u8], t: &mut [u32], root: u32, r: &mut [u32]) -> u64
     ensures { λ x. ⌜ Left (startCall (now (m .entry)) (now (t .entry)) root (now (r .entry))) x (now (r .exit)) (now (m .entry)) (now (t .exit)) ⌝ }
 {
-    if r.len() == 3 {
+    if r.len() == 4 {
         let begun = machine::start(m, t, root);
         let left = begun.registers;
         registers_into(r, left);

@@ -1,6 +1,6 @@
 // What lengths, registers, sizes and values can be.
 ghost use mathlib.Core.Path.{_≡_};
-ghost use Rattle.model.specs.step.Checks.{memoryFits, trackFits, lengthsFit, rootFits, registersFit, isSize, fitsSize};
+ghost use Rattle.model.specs.step.Checks.{memoryFits, trackFits, lengthsFit, rootFits, domainsFit, registersFit, isSize, fitsSize};
 ghost use Rattle.model.specs.step.Track.{lastRow};
 use model::Registers;
 
@@ -60,6 +60,26 @@ pub fn lengths_fit(m: usize, t: usize) -> bool
     false
 }
 
+// How many fields a domain register has.
+const FIELDS: u32 = 16;
+
+// Whether none of the fields of a domain register is 2.
+pub fn domains_fit(domains: u32) -> bool
+    ensures { λ r. ⌜ r ≡ domainsFit domains ⌝ }
+{
+    let mut rest = domains;
+    let mut i = 0;
+    while i < FIELDS {
+        let field = rest % 4;
+        if field == 2 {
+            return false;
+        }
+        rest = rest / 4;
+        i += 1;
+    }
+    true
+}
+
 // Whether registers are in range with k contexts.
 pub fn registers_fit(r: Registers, k: usize) -> bool
     ensures { λ x. ⌜ x ≡ registersFit r k ⌝ }
@@ -67,7 +87,10 @@ pub fn registers_fit(r: Registers, k: usize) -> bool
     let context = r.context as usize;
     if root_fits(r.root) {
         if context < k {
-            return r.mode <= 1;
+            if r.mode <= 1 {
+                return domains_fit(r.domains);
+            }
+            return false;
         }
         return false;
     }

@@ -15,7 +15,7 @@ use Rattle.text.specs.declared.Value.the-variants.{Number, Misspelled}
 use Rattle.text.proofs.SplitLaws.{join, join-parts, has-append, same-equal, same-refl}
 use Rattle.text.proofs.HexLaws.{hex-some, value-text, text-value, hex-spelled, digits-lack}
 use Rattle.model.specs.declared.Kind.{Kind}
-use Rattle.model.specs.declared.Kind.the-variants.{Read, Write, Root, Asid, Mode, All, Addr, Ctx, AddrCtx, Fetch}
+use Rattle.model.specs.declared.Kind.the-variants.{Read, Write, Root, Asid, Mode, All, Addr, Ctx, AddrCtx, Fetch, Domain}
 use Rattle.model.specs.declared.Operation.{Operation}
 use Rattle.names.specs.declared.Named.{Named}
 use Rattle.names.specs.declared.Named.the-variants.{Known, Nothing}
@@ -176,6 +176,7 @@ named-known Addr = refl
 named-known Ctx = refl
 named-known AddrCtx = refl
 named-known Fetch = refl
+named-known Domain = refl
 
 name-lacks : (b : ℕ) → (b ≡ comma) ⊎ (b ≡ newline) → (k : Kind) → has b (name k) ≡ false
 unfolding has
@@ -189,6 +190,7 @@ name-lacks b w Addr = ⊎-elim (λ e. rw e) (λ e. rw e) w
 name-lacks b w Ctx = ⊎-elim (λ e. rw e) (λ e. rw e) w
 name-lacks b w AddrCtx = ⊎-elim (λ e. rw e) (λ e. rw e) w
 name-lacks b w Fetch = ⊎-elim (λ e. rw e) (λ e. rw e) w
+name-lacks b w Domain = ⊎-elim (λ e. rw e) (λ e. rw e) w
 
 hex-lacks : (b n : ℕ) → digit b ≡ 16 → n < 2 ^ 32 → has b (hexOf n) ≡ false
 hex-lacks b n e h = digits-lack b (hexOf n) e (hex-spelled n h .2)

@@ -20,7 +20,7 @@ use Rattle.names.specs.declared.Named.{Named}
 use Rattle.names.specs.declared.Named.the-variants.{Known, Nothing}
 use Rattle.names.specs.Names.{comma, newline, names, name, kinds, namedIn, namedOf}
 use Rattle.model.specs.declared.Kind.{Kind}
-use Rattle.model.specs.declared.Kind.the-variants.{Read, Write, Root, Asid, Mode, All, Addr, Ctx, AddrCtx, Fetch}
+use Rattle.model.specs.declared.Kind.the-variants.{Read, Write, Root, Asid, Mode, All, Addr, Ctx, AddrCtx, Fetch, Domain}
 use Rattle.model.specs.reference.Rules.{Given}
 use Rattle.model.proofs.BoolLaws.{same-test, not-leb}
 use Rattle.model.proofs.Calls.{firstHolding, given-first, first-given, none-some, none-holds}
@@ -254,6 +254,7 @@ module _ (o a b c : List ℕ) where
   unused-same Ctx = two-zeros (same b zeroText) (same c zeroText)
   unused-same AddrCtx = one-zero (same c zeroText)
   unused-same Fetch = two-zeros (same b zeroText) (same c zeroText)
+  unused-same Domain = two-zeros (same b zeroText) (same c zeroText)
 
 -- an operation's own name is known, and tells which of its fields are unused
 module _ (a b c : List ℕ) where
@@ -272,6 +273,7 @@ module _ (a b c : List ℕ) where
   own-name Ctx = (refl, refl)
   own-name AddrCtx = (refl, refl)
   own-name Fetch = (refl, refl)
+  own-name Domain = (refl, refl)
 
 no-name : (ks : List Kind) (s : List ℕ) → namedIn ks s ≡ Nothing → any (λ k. same s (name k)) ks ≡ false
 unfolding any namedIn

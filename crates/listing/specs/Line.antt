@@ -10,7 +10,7 @@ use Rattle.text.specs.declared.Value.{Value}
 use Rattle.text.specs.declared.Value.the-variants.{Number, Misspelled}
 use Rattle.model.specs.Limits.{wordLimit}
 use Rattle.model.specs.declared.Kind.{Kind}
-use Rattle.model.specs.declared.Kind.the-variants.{Read, Write, Root, Asid, Mode, All, Addr, Ctx, AddrCtx, Fetch}
+use Rattle.model.specs.declared.Kind.the-variants.{Read, Write, Root, Asid, Mode, All, Addr, Ctx, AddrCtx, Fetch, Domain}
 use Rattle.model.specs.declared.Operation.{Operation}
 use Rattle.names.specs.declared.Named.{Named}
 use Rattle.names.specs.declared.Named.the-variants.{Known, Nothing}
@@ -33,6 +33,7 @@ used Addr = 1
 used Ctx = 1
 used AddrCtx = 2
 used Fetch = 1
+used Domain = 1
 
 -- whether field i, counted from 0, is one of the first n, or 0
 unfoldable pub spare : ℕ → ℕ → ℕ → Bool

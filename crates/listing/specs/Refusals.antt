@@ -11,7 +11,7 @@ use lib.ListN.{length, getD, drop}
 use Rattle.text.specs.Split.{same}
 use Rattle.names.specs.Names.{comma, newline, names, name, kinds}
 use Rattle.model.specs.declared.Kind.{Kind}
-use Rattle.model.specs.declared.Kind.the-variants.{Read, Write, Root, Asid, Mode, All, Addr, Ctx, AddrCtx, Fetch}
+use Rattle.model.specs.declared.Kind.the-variants.{Read, Write, Root, Asid, Mode, All, Addr, Ctx, AddrCtx, Fetch, Domain}
 use Rattle.model.specs.reference.Rules.{Given}
 use Rattle.listing.specs.Line.{lineOf}
 use Rattle.listing.specs.Whole.{lineNumber, endingNumber, finished, readList}
@@ -92,6 +92,7 @@ unused Addr = 2 ∷ 3 ∷ []
 unused Ctx = 2 ∷ 3 ∷ []
 unused AddrCtx = 3 ∷ []
 unused Fetch = 2 ∷ 3 ∷ []
+unused Domain = 2 ∷ 3 ∷ []
 
 -- ── The conditions ──
 -- 1: list too long

@@ -63,6 +63,7 @@ pub fn used(k: Kind) -> u32
         Kind::Ctx => 1,
         Kind::AddrCtx => 2,
         Kind::Fetch => 1,
+        Kind::Domain => 1,
     }
 }
 

@@ -1,6 +1,6 @@
 // The machine: start, and one operation. Registers go by value; memory and track are lent.
 ghost use mathlib.Core.Path.{_≡_};
-ghost use Rattle.model.specs.step.Machine.{Gives, withRoot, withContext, withMode, operate, stepped, started};
+ghost use Rattle.model.specs.step.Machine.{Gives, withRoot, withContext, withMode, withDomains, operate, stepped, started};
 use access::size_of;
 use model::Answer;
 use model::Check;
@@ -14,7 +14,7 @@ use transfer::fetch;
 use transfer::read;
 use transfer::write;
 
-// The registers with another root, another context, another mode.
+// The registers with another root, another context, another mode, another domain register.
 fn with_root(r: Registers, a: u32) -> Registers
     ensures { λ x. ⌜ x ≡ withRoot r a ⌝ }
 {
@@ -22,6 +22,7 @@ fn with_root(r: Registers, a: u32) -> Registers
         root: a,
         context: r.context,
         mode: r.mode,
+        domains: r.domains,
     }
 }
 
@@ -32,6 +33,7 @@ fn with_context(r: Registers, a: u32) -> Registers
         root: r.root,
         context: a,
         mode: r.mode,
+        domains: r.domains,
     }
 }
 
@@ -42,6 +44,18 @@ fn with_mode(r: Registers, a: u32) -> Registers
         root: r.root,
         context: r.context,
         mode: a,
+        domains: r.domains,
+    }
+}
+
+fn with_domains(r: Registers, a: u32) -> Registers
+    ensures { λ x. ⌜ x ≡ withDomains r a ⌝ }
+{
+    Registers {
+        root: r.root,
+        context: r.context,
+        mode: r.mode,
+        domains: a,
     }
 }
 
@@ -72,6 +86,7 @@ fn carry_out(kind: Kind, o: Operation, r: Registers, m: &mut [u8], t: &mut [u32]
             carry_flushed(Answer::Done(0), r, m, t)
         }
         Kind::Fetch => fetch(o.a, r, m, t),
+        Kind::Domain => carry(Answer::Done(0), with_domains(r, o.a), m, t),
     }
 }
 
@@ -91,7 +106,7 @@ pub fn step(o: Operation, r: Registers, m: &mut [u8], t: &mut [u32]) -> Returned
     }
 }
 
-// A start: context 0, kernel mode, the track emptied and noted.
+// A start: context 0, kernel mode, each field of the domain register 1, the track emptied and noted.
 pub fn start(m: &[u8], t: &mut [u32], root: u32) -> Returned
     ensures { λ y. ⌜ Gives (started (now (m .entry)) (now (t .entry)) root) y (now (m .entry)) (now (t .exit)) ⌝ }
 {
@@ -102,6 +117,7 @@ pub fn start(m: &[u8], t: &mut [u32], root: u32) -> Returned
                 root: 0,
                 context: 0,
                 mode: 0,
+                domains: 0,
             },
         },
         Check::Pass => {
@@ -112,6 +128,7 @@ pub fn start(m: &[u8], t: &mut [u32], root: u32) -> Returned
                     root: root,
                     context: 0,
                     mode: 0,
+                    domains: 1431655765, // 0x55555555
                 },
                 m,
                 t,

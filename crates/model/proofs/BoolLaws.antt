@@ -83,10 +83,11 @@ three-or true y z = refl
 three-or false true z = refl
 three-or false false z = refl
 
-pub not-three : (x y z : Bool) → not (cond x (cond y z false) false) ≡ (not x || not y || not z)
-not-three true true z = refl
-not-three true false z = refl
-not-three false y z = refl
+pub not-four : (x y z w : Bool) → not (cond x (cond y (cond z w false) false) false) ≡ (not x || not y || not z || not w)
+not-four true true true w = refl
+not-four true true false w = refl
+not-four true false z w = refl
+not-four false y z w = refl
 
 pub not-two : (x y : Bool) → not (cond x y false) ≡ (not x || not y)
 not-two true y = refl

@@ -2,22 +2,22 @@
 use Prim.Native.Nat.{ℕ, suc, _+_, _*_, _-_, _/_, _%_, _≤_, _<_}
 use mathlib.Core.Path.{_≡_, refl, sym, ap, ap₂, _∙_}
 use mathlib.Core.Logic.{_↔_, _⊎_, inl, inr}
-use mathlib.Core.Bool.{Bool, true, false, cond, not, _&&_, true≢false}
+use mathlib.Core.Bool.{Bool, true, false, cond, not, _&&_, _||_, or-true, true≢false}
 use mathlib.Core.List.{List, [], _∷_, _++_}
 use mathlib.Core.Option.{Option, none, some}
 use native.Mathlib.Omega.{arith}
 use lib.Dec.{eqb, leb, ltb}
 use lib.ListN.{length}
-use borrow.Author.Tests.{ltb-true, leb-true}
+use borrow.Author.Tests.{eqb-true, ltb-true, leb-true}
 use Rattle.model.specs.Limits.{rowSize, contextsMost}
 use Rattle.model.specs.Numbers.{Result, ok, fault, refused, shown, refusalNumber}
-use Rattle.model.specs.reference.Rules.{Translation, found, failed, inMemory, physical, rightOf, permits, permissionFault, State, fresh, aligned, accessSize, touched, translated, access, setRegisters, effect, outcome, carriedOut, Scope, own, global, flushes, trackWord, notedIn, wordAfter, contexts, hasRow, conditions, startConditions, Given, refuses16}
+use Rattle.model.specs.reference.Rules.{Translation, found, failed, inMemory, physical, State, fresh, aligned, accessSize, touched, ruled, translated, access, setRegisters, effect, outcome, carriedOut, Scope, own, global, flushes, trackWord, notedIn, wordAfter, contexts, hasRow, conditions, startConditions, Given, wrongMemory, refuses13, refuses16}
 use Rattle.model.specs.reference.Runs.{isRefused}
 use Rattle.model.specs.step.Track.{lastRow, noteTrack, flushAll}
-use Rattle.model.specs.step.Checks.{checks, startChecks, firstFailing, contextFits, registersFit, sizeFits, rootFits, lengthsFit, memoryFits, trackFits}
+use Rattle.model.specs.step.Checks.{checks, startChecks, firstFailing, contextFits, domainsFit, registersFit, sizeFits, rootFits, lengthsFit, memoryFits, trackFits}
 use Rattle.model.specs.step.Machine.{After, sizeOf, accessAt, readFrom, writeTo, readStep, writeStep, fetchStep, afterChecks, startedBy, operate, stepped, started, startRegisters, zeroRegisters, turnedBack}
 use Rattle.model.specs.Demands.{Call, conditionsOf, after, before, visible, Leaves, Total, Faithful}
-use Rattle.model.specs.Types.{Registers, Operation, Kind, Read, Write, Root, Asid, Mode, All, Addr, Ctx, AddrCtx, Fetch, Refusal, StalePage, Size, Four, Purpose, ToRead, ToWrite, ToFetch, Check, Pass, Refuse, Access, Stale, Fails, Physical}
+use Rattle.model.specs.Types.{Registers, Operation, Kind, Read, Write, Root, Asid, Mode, All, Addr, Ctx, AddrCtx, Fetch, Domain, Entry, Refusal, StalePage, Size, Four, Purpose, ToRead, ToWrite, ToFetch, Ruling, Allowed, PermissionDenied, DomainDenied, Check, Pass, Refuse, Access, Stale, Fails, Physical}
 use Rattle.model.proofs.BoolLaws.{push, and-both}
 use Rattle.model.proofs.Checks.{asConditions, staleCondition, checks-same, start-checks-same}
 use Rattle.model.proofs.Track.{flushOf, noted-word, noted-length, flushed-word, flushed-length, word-after}
@@ -118,16 +118,20 @@ touched-answers ToRead at size v s = refl
 touched-answers ToWrite at size v s = refl
 touched-answers ToFetch at size v s = refl
 
+ruled-answers : (y : Ruling) (x : Purpose) (a size v : ℕ) (s : State) (e : Entry) → isRefused (ruled y x a size v s e .0) ≡ false
+unfolding isRefused ruled
+ruled-answers DomainDenied x a size v s e = refl
+ruled-answers PermissionDenied x a size v s e = refl
+ruled-answers Allowed x a size v s e = go (inMemory (s .memory) (physical e a) size)
+  where
+    go : (b : Bool) → isRefused (cond b (touched x (physical e a) size v s) (fault 0x8, s) .0) ≡ false
+    go true = touched-answers x (physical e a) size v s
+    go false = refl
+
 translated-answers : (x : Purpose) (a size v : ℕ) (s : State) (y : Translation) → isRefused (translated x a size v s y .0) ≡ false
 unfolding isRefused translated
 translated-answers x a size v s (failed n) = refl
-translated-answers x a size v s (found e) =
-    go (permits x (rightOf (e .ap) (s .registers .mode)) (e .xn)) (inMemory (s .memory) (physical e a) size)
-  where
-    go : (p q : Bool) → isRefused (cond p (cond q (touched x (physical e a) size v s) (fault 0x8, s)) (fault (permissionFault e), s) .0) ≡ false
-    go true true = touched-answers x (physical e a) size v s
-    go true false = refl
-    go false q = refl
+translated-answers x a size v s (found e) = ruled-answers _ x a size v s e
 
 access-answers : (x : Purpose) (o : Operation) (s : State) (f : ℕ → Translation) → isRefused (access x o s f .0) ≡ false
 unfolding isRefused access
@@ -149,6 +153,7 @@ effect-answers Addr o s f = refl
 effect-answers Ctx o s f = refl
 effect-answers AddrCtx o s f = refl
 effect-answers Fetch o s f = access-answers ToFetch o s f
+effect-answers Domain o s f = refl
 
 pub never-refused : (o : Operation) (s : State) (r : ℕ) → carriedOut o s .0 ≡ refused r → ⊥
 unfolding carriedOut
@@ -216,6 +221,7 @@ operate-ended Addr o r m t = done refl refl
 operate-ended Ctx o r m t = done refl refl
 operate-ended AddrCtx o r m t = done refl refl
 operate-ended Fetch o r m t = read-ended (accessAt r m t ToFetch Four (o .a)) Four r m t
+operate-ended Domain o r m t = done refl refl
 
 -- the flush of a call
 abbrev flushedBy : Call → List ℕ
@@ -267,6 +273,7 @@ context-left Addr o r m t h f = h
 context-left Ctx o r m t h f = h
 context-left AddrCtx o r m t h f = h
 context-left Fetch o r m t h f = rw (read-context (accessAt r m t ToFetch Four (o .a)) Four r m t) h
+context-left Domain o r m t h f = h
 
 -- what the checks passed say of contexts
 pub record Passed (x : Call) : Type 0 where
@@ -278,7 +285,7 @@ context-in-range : (r : Registers) (n : ℕ) → registersFit r n ≡ true → r
 unfolding registersFit
 context-in-range r n p = go (rootFits (r .root)) (ltb (r .context) n) refl p
   where
-    go : (x y : Bool) → ltb (r .context) n ≡ y → cond x (cond y (leb (r .mode) 1) false) false ≡ true → r .context < n
+    go : (x y : Bool) → ltb (r .context) n ≡ y → cond x (cond y (cond (leb (r .mode) 1) (domainsFit (r .domains)) false) false) false ≡ true → r .context < n
     go true true e q = ltb-true (r .context) n e
     go true false e q = absurd (true≢false (sym q))
     go false y e q = absurd (true≢false (sym q))
@@ -396,6 +403,15 @@ has-context m t p = go (memoryFits (length m)) (eqb (length t % rowSize) 0) (leb
     go true true false e q = absurd (true≢false (sym q))
     go true false z e q = absurd (true≢false (sym q))
     go false y z e q = absurd (true≢false (sym q))
+
+-- the track of an accepted start has whole rows
+pub start-lengths : (m t : List ℕ) (root : ℕ) → ((r : ℕ) → Given r (startConditions m t root) → ⊥) → length t ≡ rowSize * (contexts t + 1)
+unfolding startConditions Given refuses13
+start-lengths m t root h = go (eqb (length t) (rowSize * (contexts t + 1))) refl
+  where
+    go : (b : Bool) → eqb (length t) (rowSize * (contexts t + 1)) ≡ b → length t ≡ rowSize * (contexts t + 1)
+    go true q = eqb-true (length t) (rowSize * (contexts t + 1)) q
+    go false q = absurd (h 13 (inl (refl, rw q (or-true (wrongMemory m)))))
 
 pub begun : (m t : List ℕ) (root : ℕ) → Begun (started m t root) m t root
 unfolding started

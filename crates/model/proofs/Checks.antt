@@ -9,12 +9,13 @@ use lib.ListN.{length}
 use borrow.Author.Tests.{eqb-true, eqb-false, eq-eqb, ne-eqb, leb-true, le-leb}
 use Rattle.model.specs.Limits.{addressLimit, rowSize, rootAlignment, memoryUnit, memoryMost, contextsMost, wordLimit}
 use Rattle.model.specs.Numbers.{refusalNumber}
-use Rattle.model.specs.reference.Rules.{among, contexts, refuses7, refuses8, refuses9, refuses10, refuses11, refuses12, refuses13, refuses14, refuses15, refuses16, conditions, startConditions}
+use Rattle.model.specs.reference.Rules.{among, contexts, refuses7, refuses8, refuses9, refuses10, refuses11, refuses12, refuses13, refuses14, refuses15, refuses16, refuses17, conditions, startConditions}
 use Rattle.model.specs.step.Track.{lastRow}
-use Rattle.model.specs.step.Checks.{memoryFits, trackFits, lengthsFit, rootFits, registersFit, isSize, sizeFits, addressFits, fitsSize, valueFits, newRootFits, contextFits, modeFits, mayAsk, checks, startChecks}
+use Rattle.model.specs.step.Checks.{memoryFits, trackFits, lengthsFit, rootFits, domainsFit, registersFit, isSize, sizeFits, addressFits, fitsSize, valueFits, newRootFits, contextFits, modeFits, newDomainsFit, mayAsk, checks, startChecks}
 use Rattle.model.specs.Demands.{Call, conditionsOf}
-use Rattle.model.specs.Types.{Registers, Operation, Kind, Read, Write, Root, Asid, Mode, All, Addr, Ctx, AddrCtx, Fetch, Refusal}
-use Rattle.model.proofs.BoolLaws.{same-test, and-both, not-ltb, not-leb, or-false, three-and, three-or, not-three, not-two}
+use Rattle.model.specs.Types.{Registers, Operation, Kind, Read, Write, Root, Asid, Mode, All, Addr, Ctx, AddrCtx, Fetch, Domain, Refusal}
+use Rattle.model.proofs.BoolLaws.{same-test, and-both, not-ltb, not-leb, or-false, three-and, three-or, not-four, not-two}
+use Rattle.model.proofs.Fields.{domains-same}
 
 -- an operation with these parts
 abbrev op : Kind → ℕ → ℕ → ℕ → Operation
@@ -36,6 +37,7 @@ size-same Addr a b c = refl
 size-same Ctx a b c = refl
 size-same AddrCtx a b c = refl
 size-same Fetch a b c = refl
+size-same Domain a b c = refl
 
 -- 8
 pub address-same : (k : Kind) (a b c : ℕ) → not (addressFits k a) ≡ refuses8 (op k a b c)
@@ -50,6 +52,7 @@ address-same Addr a b c = not-ltb a addressLimit
 address-same Ctx a b c = refl
 address-same AddrCtx a b c = not-ltb a addressLimit
 address-same Fetch a b c = not-ltb a addressLimit
+address-same Domain a b c = refl
 
 -- 9
 value-test : (b c : ℕ) → not (fitsSize b c) ≡ (eqb b 1 && leb 0x100 c || eqb b 2 && leb 0x10000 c || eqb b 4 && leb 0x100000000 c)
@@ -81,6 +84,7 @@ value-same Addr a b c = refl
 value-same Ctx a b c = refl
 value-same AddrCtx a b c = refl
 value-same Fetch a b c = refl
+value-same Domain a b c = refl
 
 -- 10
 pub root-same : (k : Kind) (a b c : ℕ) → not (newRootFits k a) ≡ refuses10 (op k a b c)
@@ -95,6 +99,7 @@ root-same Addr a b c = refl
 root-same Ctx a b c = refl
 root-same AddrCtx a b c = refl
 root-same Fetch a b c = refl
+root-same Domain a b c = refl
 
 -- 11
 pub context-same : (k : Kind) (a b c n : ℕ) → not (contextFits k a b n) ≡ refuses11 (op k a b c) n
@@ -109,6 +114,7 @@ context-same Addr a b c n = refl
 context-same Ctx a b c n = not-ltb a n ∙ sym (or-false (leb n a))
 context-same AddrCtx a b c n = not-ltb b n
 context-same Fetch a b c n = refl
+context-same Domain a b c n = refl
 
 -- 12
 pub mode-same : (k : Kind) (a b c : ℕ) → not (modeFits k a) ≡ refuses12 (op k a b c)
@@ -123,6 +129,7 @@ mode-same Addr a b c = refl
 mode-same Ctx a b c = refl
 mode-same AddrCtx a b c = refl
 mode-same Fetch a b c = refl
+mode-same Domain a b c = refl
 
 -- 13
 track-test : (n : ℕ) → trackFits n ≡ (eqb n (rowSize * (lastRow n + 1)) && leb 1 (lastRow n) && leb (lastRow n) contextsMost)
@@ -158,12 +165,27 @@ lengths-same m t =
     (three-and (eqb (length m % memoryUnit) 0) (leb memoryUnit (length m)) (leb (length m) memoryMost))
     (track-test (length t))
 
--- 14
+-- 14, and 17
 pub registers-same : (r : Registers) (n : ℕ) → not (registersFit r n) ≡ refuses14 r n
 unfolding registersFit rootFits refuses14
 registers-same r n =
-    not-three (eqb (r .root % rootAlignment) 0) (ltb (r .context) n) (leb (r .mode) 1)
-    ∙ ap₂ (λ x y. not (eqb (r .root % rootAlignment) 0) || x || y) (not-ltb (r .context) n) (not-leb (r .mode) 1)
+    not-four (eqb (r .root % rootAlignment) 0) (ltb (r .context) n) (leb (r .mode) 1) (domainsFit (r .domains))
+    ∙ ap₂ (λ x y. not (eqb (r .root % rootAlignment) 0) || x || y || not (domainsFit (r .domains))) (not-ltb (r .context) n) (not-leb (r .mode) 1)
+    ∙ ap (λ z. not (eqb (r .root % rootAlignment) 0) || leb n (r .context) || leb 2 (r .mode) || z) (domains-same (r .domains))
+
+pub new-domains-same : (k : Kind) (a b c : ℕ) → not (newDomainsFit k a) ≡ refuses17 (op k a b c)
+unfolding newDomainsFit refuses17 among
+new-domains-same Read a b c = refl
+new-domains-same Write a b c = refl
+new-domains-same Root a b c = refl
+new-domains-same Asid a b c = refl
+new-domains-same Mode a b c = refl
+new-domains-same All a b c = refl
+new-domains-same Addr a b c = refl
+new-domains-same Ctx a b c = refl
+new-domains-same AddrCtx a b c = refl
+new-domains-same Fetch a b c = refl
+new-domains-same Domain a b c = domains-same a
 
 -- 15
 pub asking-same : (k : Kind) (a b c : ℕ) (r : Registers) → not (mayAsk k (r .mode)) ≡ refuses15 (op k a b c) r
@@ -178,6 +200,7 @@ asking-same Addr a b c r = refl
 asking-same Ctx a b c r = refl
 asking-same AddrCtx a b c r = refl
 asking-same Fetch a b c r = refl
+asking-same Domain a b c r = refl
 
 -- checks as conditions: the number of the refusal, and that the check fails
 unfoldable pub asConditions : List (Bool × Refusal) → List (ℕ × Bool)
@@ -201,6 +224,7 @@ checks-same x = λ i.
     ∷ (10, root-same k a b c i)
     ∷ (11, context-same k a b c (lastRow (length (x .track))) i)
     ∷ (12, mode-same k a b c i)
+    ∷ (17, new-domains-same k a b c i)
     ∷ (15, asking-same k a b c (x .registers) i)
     ∷ staleCondition x
     ∷ []

@@ -9,19 +9,20 @@ use lib.ListN.{length, getD}
 use borrow.Author.Tests.{eqb-true, eqb-false, eq-eqb, ne-eqb}
 use Rattle.model.specs.Limits.{pageSize, rowSize}
 use Rattle.model.specs.Numbers.{Result, ok, fault, refused, shown, faultNumber}
-use Rattle.model.specs.reference.Rules.{Translation, found, failed, inMemory, value, stored, walk, physical, rightOf, permits, permissionFault, State, Scope, own, global, aligned, accessSize, touched, translated, access, setRegisters, effect, outcome, carriedOut, trackWord, contexts, rowOf, stale, kept, differs, among, refuses16}
+use Rattle.model.specs.reference.Rules.{Translation, found, failed, inMemory, value, stored, walk, physical, permissionFault, domainFault, ruled, fieldOf, ruling, State, Scope, own, global, aligned, accessSize, touched, translated, access, setRegisters, effect, outcome, carriedOut, trackWord, contexts, rowOf, stale, kept, differs, among, refuses16}
 use Rattle.model.specs.step.Memory.{bytesOf, within, loadAt, writtenAt}
 use Rattle.model.specs.step.Walk.{walkPage}
-use Rattle.model.specs.step.Rights.{permitted}
+use Rattle.model.specs.step.Rights.{fieldAt, rulingOf}
 use Rattle.model.specs.step.Track.{noteTrack, lastRow, wordAt, staleWord, stalePage}
 use Rattle.model.specs.step.Checks.{isSize, sizeFits}
-use Rattle.model.specs.step.Machine.{After, sizeOf, valueOf, physicalOf, permissionFaultOf, granted, decided, accessAt, readFrom, writeTo, readStep, writeStep, fetchStep, operate}
+use Rattle.model.specs.step.Machine.{After, sizeOf, valueOf, physicalOf, permissionFaultOf, domainFaultOf, reached, granted, decided, accessAt, readFrom, writeTo, readStep, writeStep, fetchStep, operate}
 use Rattle.model.specs.Demands.{visible}
-use Rattle.model.specs.Types.{Registers, Operation, Kind, Read, Write, Root, Asid, Mode, All, Addr, Ctx, AddrCtx, Fetch, Entry, Alignment, SectionPermission, PagePermission, AccessOutside, Size, One, Two, Four, Purpose, ToRead, ToWrite, ToFetch, Outcome, Mapped, Failed, Access, Stale, Fails, Physical}
+use Rattle.model.specs.Types.{Registers, Operation, Kind, Read, Write, Root, Asid, Mode, All, Addr, Ctx, AddrCtx, Fetch, Domain, Entry, Alignment, SectionDomain, PageDomain, SectionPermission, PagePermission, AccessOutside, Size, One, Two, Four, Purpose, ToRead, ToWrite, ToFetch, Ruling, Allowed, PermissionDenied, DomainDenied, Outcome, Mapped, Failed, Access, Stale, Fails, Physical}
 use Rattle.model.proofs.BoolLaws.{push}
 use Rattle.model.proofs.Memory.{within-same, number-same, stored-same}
 use Rattle.model.proofs.Walk.{translation, walk-same}
-use Rattle.model.proofs.Rights.{rights-same}
+use Rattle.model.proofs.Rights.{ruling-same}
+use Rattle.model.proofs.Fields.{field-same}
 use Rattle.model.proofs.Words.{rowKind, walk-range, stale-same}
 
 -- memory and registers together
@@ -82,26 +83,34 @@ permission-same : (e : Entry) → faultNumber (permissionFaultOf e) ≡ permissi
 unfolding permissionFaultOf permissionFault
 permission-same e = push faultNumber (eqb (e .section) 1) SectionPermission PagePermission
 
-granted-same : (y : Outcome) (x : Purpose) (size : Size) (a v : ℕ) (r : Registers) (m : List ℕ) →
-    taken x size v (state r m) (granted y (r .mode) x size a m) ≡ translated x a (bytesOf size) v (state r m) (translation y)
-unfolding taken translated physical
-granted-same (Failed f) x size a v r m = refl
-granted-same (Mapped e) x size a v r m =
-    let allowed : Bool = permitted (e .ap) (r .mode) x (e .xn) in
-    let denied : Result × State = (fault (permissionFault e), state r m) in
+domain-same : (e : Entry) → faultNumber (domainFaultOf e) ≡ domainFault e
+unfolding domainFaultOf domainFault
+domain-same e = push faultNumber (eqb (e .section) 1) SectionDomain PageDomain
+
+reached-same : (y : Ruling) (e : Entry) (x : Purpose) (size : Size) (a v : ℕ) (r : Registers) (m : List ℕ) →
+    taken x size v (state r m) (reached y e size a m) ≡ ruled y x a (bytesOf size) v (state r m) e
+unfolding taken ruled physical
+reached-same Allowed e x size a v r m =
     let outside : Result × State = (fault 0x8, state r m) in
     let bytes : Result × State = touched x (physicalOf e a) (bytesOf size) v (state r m) in
-    push (taken x size v (state r m)) allowed
-    (cond (within size m (physicalOf e a)) (Physical (physicalOf e a)) (Fails AccessOutside)) (Fails (permissionFaultOf e))
-    ∙ ap₂ (λ y n. cond allowed y (fault n, state r m))
-    (push (taken x size v (state r m)) (within size m (physicalOf e a)) (Physical (physicalOf e a)) (Fails AccessOutside)
+    push (taken x size v (state r m)) (within size m (physicalOf e a)) (Physical (physicalOf e a)) (Fails AccessOutside)
     ∙ where-true (within size m (physicalOf e a)) _ bytes outside (bytes-taken x size v r m (physicalOf e a))
-    ∙ ap (λ b. cond b bytes outside) (within-same size m (physicalOf e a)))
-    (permission-same e)
-    ∙ ap (λ b. cond b (cond (inMemory m (physicalOf e a) (bytesOf size)) bytes outside) denied) (rights-same (e .ap) (r .mode) x (e .xn))
+    ∙ ap (λ b. cond b bytes outside) (within-same size m (physicalOf e a))
+reached-same PermissionDenied e x size a v r m = ap (λ n. (fault n, state r m)) (permission-same e)
+reached-same DomainDenied e x size a v r m = ap (λ n. (fault n, state r m)) (domain-same e)
+
+granted-same : (y : Outcome) (x : Purpose) (size : Size) (a v : ℕ) (r : Registers) (m : List ℕ) →
+    taken x size v (state r m) (granted y r x size a m) ≡ translated x a (bytesOf size) v (state r m) (translation y)
+unfolding taken translated
+granted-same (Failed f) x size a v r m = refl
+granted-same (Mapped e) x size a v r m =
+    reached-same (rulingOf (e .ap) (r .mode) x (fieldAt (r .domains) (e .domain)) (e .xn)) e x size a v r m
+    ∙ ap (λ y. ruled y x a (bytesOf size) v (state r m) e)
+    (ruling-same (e .ap) (r .mode) x (fieldAt (r .domains) (e .domain)) (e .xn)
+    ∙ ap (λ n. ruling (e .ap) (r .mode) x n (e .xn)) (field-same (r .domains) (e .domain)))
 
 decided-same : (y : Outcome) (b : Bool) (x : Purpose) (size : Size) (a v : ℕ) (r : Registers) (m : List ℕ) →
-    taken x size v (state r m) (decided y b (r .mode) x size a m)
+    taken x size v (state r m) (decided y b r x size a m)
     ≡ cond (aligned a (bytesOf size)) (cond b (refused 16, state r m) (translated x a (bytesOf size) v (state r m) (translation y))) (fault 0x1, state r m)
 unfolding decided aligned taken
 decided-same y b x size a v r m =
@@ -186,6 +195,7 @@ by-kind All a b c r m t h = refl
 by-kind Addr a b c r m t h = refl
 by-kind Ctx a b c r m t h = refl
 by-kind AddrCtx a b c r m t h = refl
+by-kind Domain a b c r m t h = refl
 by-kind Fetch a b c r m t h =
     read-taken (accessAt r m t ToFetch Four a) Four c r m t
     ∙ fetch-taken (accessAt r m t ToFetch Four a) Four c (state r m)

@@ -11,16 +11,17 @@ use Rattle.model.specs.reference.Rules.{bits, wordOf, entryOf, same}
 use Rattle.model.specs.Types.{Entry}
 use Rattle.model.proofs.BoolLaws.{and-both}
 
--- a frame number of 20 bits, an AP of 3, the section bit, the global bit and the XN bit
+-- a frame number of 20 bits, an AP of 3, the section bit, the global bit, the XN bit and a domain of 4 bits
 abbrev pub Fits : Entry → Type 0
-Fits e = (e .frame < 1048576) × ((e .ap < 8) × ((e .section < 2) × ((e .global < 2) × (e .xn < 2))))
+Fits e = (e .frame < 1048576) × ((e .ap < 8) × ((e .section < 2) × ((e .global < 2) × ((e .xn < 2) × (e .domain < 16)))))
 
 -- ── Compared whole ──
 
 pub same-true : (x y : Entry) → same x y ≡ true → x ≡ y
 unfolding same
 same-true x y p =
-    let xns = and-both _ (eqb (x .xn) (y .xn)) p in
+    let domains = and-both _ (eqb (x .domain) (y .domain)) p in
+    let xns = and-both _ (eqb (x .xn) (y .xn)) (domains .0) in
     let globals = and-both _ (eqb (x .global) (y .global)) (xns .0) in
     let sections = and-both _ (eqb (x .section) (y .section)) (globals .0) in
     let aps = and-both (eqb (x .frame) (y .frame)) (eqb (x .ap) (y .ap)) (sections .0) in
@@ -30,6 +31,7 @@ same-true x y p =
       section = eqb-true (x .section) (y .section) (sections .1) i;
       global = eqb-true (x .global) (y .global) (globals .1) i;
       xn = eqb-true (x .xn) (y .xn) (xns .1) i;
+      domain = eqb-true (x .domain) (y .domain) (domains .1) i;
     }
 
 pub same-self : (e : Entry) → same e e ≡ true
@@ -41,6 +43,7 @@ same-self e =
       eq-eqb (e .section) (e .section) refl,
       eq-eqb (e .global) (e .global) refl,
       eq-eqb (e .xn) (e .xn) refl,
+      eq-eqb (e .domain) (e .domain) refl,
     )
 
 pub same-false : (x y : Entry) → same x y ≡ false → x ≡ y → ⊥
@@ -67,5 +70,6 @@ decoded e h = λ i. record {
   ap = part (wordOf e) 512 8 (e .frame) (e .ap) (omega arith) (h .1 .0) i;
   section = part (wordOf e) 256 2 (e .frame * 8 + e .ap) (e .section) (omega arith) (h .1 .1 .0) i;
   global = part (wordOf e) 128 2 (e .frame * 16 + e .ap * 2 + e .section) (e .global) (omega arith) (h .1 .1 .1 .0) i;
-  xn = part (wordOf e) 64 2 (e .frame * 32 + e .ap * 4 + e .section * 2 + e .global) (e .xn) (omega arith) (h .1 .1 .1 .1) i;
+  xn = part (wordOf e) 64 2 (e .frame * 32 + e .ap * 4 + e .section * 2 + e .global) (e .xn) (omega arith) (h .1 .1 .1 .1 .0) i;
+  domain = part (wordOf e) 4 16 (e .frame * 64 + e .ap * 8 + e .section * 4 + e .global * 2 + e .xn) (e .domain) (omega arith) (h .1 .1 .1 .1 .1) i;
 }

@@ -21,7 +21,7 @@ use Rattle.model.specs.reference.Rules.{Translation, found, failed, walk
 use Rattle.model.specs.reference.Runs.{isRefused}
 use Rattle.model.specs.step.Machine.{After, stepped, started}
 use Rattle.model.specs.Invisible.{isAccess, alignedAccess}
-use Rattle.model.specs.Types.{Operation, Kind, Read, Write, Root, Asid, Mode, All, Addr, Ctx, AddrCtx, Fetch, Entry, Purpose, ToRead, ToWrite, ToFetch}
+use Rattle.model.specs.Types.{Operation, Kind, Read, Write, Root, Asid, Mode, All, Addr, Ctx, AddrCtx, Fetch, Domain, Entry, Purpose, ToRead, ToWrite, ToFetch}
 use Rattle.model.proofs.BoolLaws.{and-both}
 use Rattle.model.proofs.Walk.{translation, walk-same}
 
@@ -166,6 +166,7 @@ effect-page Addr o s f h e = refl
 effect-page Ctx o s f h e = refl
 effect-page AddrCtx o s f h e = refl
 effect-page Fetch o s f h e = access-page ToFetch o s f h (e refl)
+effect-page Domain o s f h e = refl
 
 pub one-page : (s : State) (o : Operation) (f h : ℕ → Walk Entry ℕ) → ((page : ℕ) → pageOf o ≡ some page → f page ≡ h page) → carryOf s o f ≡ carryOf s o h
 unfolding carryOf pageOf

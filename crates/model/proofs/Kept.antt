@@ -23,7 +23,7 @@ use Rattle.model.specs.step.Walk.{walkPage}
 use Rattle.model.specs.step.Checks.{checks, firstFailing, addressFits}
 use Rattle.model.specs.step.Machine.{After, stepped, started}
 use Rattle.model.specs.Demands.{Call, conditionsOf, after, before, visible, Leaves}
-use Rattle.model.specs.Types.{Registers, Operation, Kind, Read, Write, Root, Asid, Mode, All, Addr, Ctx, AddrCtx, Fetch, Entry, Refusal, Check, Pass, Refuse, Outcome, Mapped, Failed}
+use Rattle.model.specs.Types.{Registers, Operation, Kind, Read, Write, Root, Asid, Mode, All, Addr, Ctx, AddrCtx, Fetch, Domain, Entry, Refusal, Check, Pass, Refuse, Outcome, Mapped, Failed}
 use Rattle.model.proofs.BoolLaws.{and-both}
 use Rattle.model.proofs.Walk.{translation, walk-same}
 use Rattle.model.proofs.Entries.{Fits, same-true, same-false, entry-discrete, decoded}
@@ -34,7 +34,7 @@ use Rattle.model.proofs.Instance.{asWalk, ofWalk, pageOf, walkOf, carry
 
 -- ── A call as the theory sees it ──
 
-abbrev callAt : State → List ℕ → Operation → Call
+abbrev pub callAt : State → List ℕ → Operation → Call
 callAt s t o = record { operation = o; registers = s .registers; memory = s .memory; track = t }
 
 reply-refused : (x : Result) (r : ℕ) → replyOf x ≡ refusedBy r → x ≡ refused r
@@ -49,10 +49,10 @@ reply-done (faulted n) a p = (let z : faulted n ≡ a = cc in z, refl)
 reply-done (refused n) a p = absurd (let z : _≡_ {A = Bool} true false = cc in true≢false z)
 
 -- carried out: no condition holds
-not-given : (x : Call) → isRefused (shown (after x .answer)) ≡ false → (r : ℕ) → Given r (conditionsOf x) → ⊥
+pub not-given : (x : Call) → isRefused (shown (after x .answer)) ≡ false → (r : ℕ) → Given r (conditionsOf x) → ⊥
 not-given x p r g = not-refused (shown (after x .answer)) r p (exactly x r .1 g)
 
-start-not-given : (m t : List ℕ) (root : ℕ) → isRefused (shown (started m t root .answer)) ≡ false → (r : ℕ) → Given r (startConditions m t root) → ⊥
+pub start-not-given : (m t : List ℕ) (root : ℕ) → isRefused (shown (started m t root .answer)) ≡ false → (r : ℕ) → Given r (startConditions m t root) → ⊥
 start-not-given m t root p r g = not-refused (shown (started m t root .answer)) r p (start-exactly m t root r .1 g)
 
 -- ── The checker carries out what the machine does ──
@@ -64,7 +64,7 @@ same-contexts : (t u : List ℕ) → length t ≡ length u → contexts t ≡ co
 unfolding contexts
 same-contexts t u e = ap (λ n. n / rowSize - 1) e
 
-same-has : (t v : List ℕ) → length t ≡ length v → (u : Scope) → hasRow t u ≡ hasRow v u
+pub same-has : (t v : List ℕ) → length t ≡ length v → (u : Scope) → hasRow t u ≡ hasRow v u
 unfolding hasRow
 same-has t v e (own c) = ap (ltb c) (same-contexts t v e)
 same-has t v e global = refl
@@ -131,7 +131,7 @@ word-zero e p = omega arith
 abbrev Suiting : Scope → Entry → Type 0
 Suiting u e = Fits e × (suits u e ≡ true)
 
-kept-word : (u : Scope) (e : Entry) → Suiting u e → kept u (wordOf e) ≡ only e
+pub kept-word : (u : Scope) (e : Entry) → Suiting u e → kept u (wordOf e) ≡ only e
 unfolding kept
 kept-word u e h =
     rw (ne-eqb (wordOf e) 0 (word-zero e), decoded e (h .0), eq-eqb (wordOf e) (wordOf e) refl, h .1)
@@ -147,7 +147,7 @@ coding u = record {
 
 -- ── Scopes compared ──
 
-same-scope : (u v : Scope) → sameScope u v ≡ true → u ≡ v
+pub same-scope : (u v : Scope) → sameScope u v ≡ true → u ≡ v
 unfolding sameScope
 same-scope (own c) (own d) p = ap own (eqb-true c d p)
 same-scope (own c) global p = absurd (true≢false (sym p))
@@ -160,7 +160,7 @@ scope-self (own c) = eq-eqb c c refl
 scope-self global = refl
 
 -- an entry suits the row of its own scope
-suits-own : (c : ℕ) (e : Entry) → Fits e → suits (scopeOf c e) e ≡ true
+pub suits-own : (c : ℕ) (e : Entry) → Fits e → suits (scopeOf c e) e ≡ true
 unfolding scopeOf
 suits-own c e h = go (eqb (e .global) 1) refl
   where
@@ -174,7 +174,7 @@ mapped u c (found e) = cond (sameScope u (scopeOf c e)) (some e) none
 mapped u c (failed n) = none
 
 -- each entry that the tables give is in range
-outcome-range : (s : State) (a : ℕ) (e : Entry) → outcome s a ≡ found e → Fits e
+pub outcome-range : (s : State) (a : ℕ) (e : Entry) → outcome s a ≡ found e → Fits e
 unfolding outcome
 outcome-range s a e p =
     go (walkPage (s .memory) (s .registers .root) (a / pageSize)) (walk-range (s .memory) (s .registers .root) (a / pageSize)) (walk-same (s .memory) (s .registers .root) a ∙ p)
@@ -448,6 +448,7 @@ in-window Addr a p q = absurd (true≢false (sym p))
 in-window Ctx a p q = absurd (true≢false (sym p))
 in-window AddrCtx a p q = absurd (true≢false (sym p))
 in-window Fetch a p q = let h = ltb-true a addressLimit q in omega arith
+in-window Domain a p q = absurd (true≢false (sym p))
 
 record Paged (o : Operation) (k : ℕ) : Type 0 where
   kinds : among (o .kind) accesses ≡ true

@@ -3,6 +3,7 @@ pub mod BoolLaws
 pub mod Memory
 pub mod Walk
 pub mod Rights
+pub mod Fields
 pub mod Checks
 pub mod Rows
 pub mod Entries
@@ -17,5 +18,7 @@ pub mod Kept
 pub mod Chips
 pub mod ThirdDemand
 pub mod Pinned
+pub mod Noted
+pub mod Domains
 pub mod Refuted
 pub mod CaseTools

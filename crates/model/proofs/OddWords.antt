@@ -14,15 +14,15 @@ use Rattle.model.proofs.BoolLaws.{either}
 use Rattle.model.proofs.Calls.{words}
 
 counts : (u : Scope) (w : ℕ) → (w ≡ 0 → ⊥) →
-    ((e : Entry) → e .frame < 0x100000 → e .ap < 8 → e .section < 2 → e .global < 2 → e .xn < 2 → suits u e ≡ true → w ≡ wordOf e → ⊥) → kept u w ≡ several
+    ((e : Entry) → e .frame < 0x100000 → e .ap < 8 → e .section < 2 → e .global < 2 → e .xn < 2 → e .domain < 16 → suits u e ≡ true → w ≡ wordOf e → ⊥) → kept u w ≡ several
 unfolding kept
 counts u w nz h = rw (ne-eqb w 0 nz) (go (eqb w (wordOf (entryOf w))) (suits u (entryOf w)) refl refl)
   where
-    within : (entryOf w .frame < 0x100000) × (entryOf w .ap < 8) × (entryOf w .section < 2) × (entryOf w .global < 2) × (entryOf w .xn < 2)
-    within = unfold entryOf bits in (omega arith, omega arith, omega arith, omega arith, omega arith)
+    within : (entryOf w .frame < 0x100000) × (entryOf w .ap < 8) × (entryOf w .section < 2) × (entryOf w .global < 2) × (entryOf w .xn < 2) × (entryOf w .domain < 16)
+    within = unfold entryOf bits in (omega arith, omega arith, omega arith, omega arith, omega arith, omega arith)
 
     go : (x y : Bool) → eqb w (wordOf (entryOf w)) ≡ x → suits u (entryOf w) ≡ y → cond (x && y) (one (entryOf w)) several ≡ several
-    go true true p q = absurd (h (entryOf w) (within .0) (within .1) (within .2) (within .3) (within .4) q (eqb-true w (wordOf (entryOf w)) p))
+    go true true p q = absurd (h (entryOf w) (within .0) (within .1) (within .2) (within .3) (within .4) (within .5) q (eqb-true w (wordOf (entryOf w)) p))
     go true false p q = refl
     go false y p q = refl
 

@@ -18,7 +18,7 @@ use Rattle.model.specs.reference.Rules.{Translation, found, failed, Stat
 use Rattle.model.specs.reference.Runs.{last, Moment, chipStart, chipNext, chipRun, chipSeen, seen, isRefused, Holds}
 use Rattle.model.specs.step.Machine.{After}
 use Rattle.model.specs.Invisible.{Session, begun, Accepted, checkerRunOf, chipStartOf, chipRunOf, heldBy, loadedNow, atEnd, plainEnd, alignedAccess, checker, Pinned}
-use Rattle.model.specs.Types.{Operation, Kind, Read, Write, Root, Asid, Mode, All, Addr, Ctx, AddrCtx, Fetch, Entry, Purpose, ToRead, ToWrite, ToFetch}
+use Rattle.model.specs.Types.{Operation, Kind, Read, Write, Root, Asid, Mode, All, Addr, Ctx, AddrCtx, Fetch, Domain, Entry, Purpose, ToRead, ToWrite, ToFetch}
 use Rattle.model.proofs.BoolLaws.{and-both}
 use Rattle.model.proofs.Instance.{stateOf, outcome-page, effect-page, access-parts}
 use Rattle.model.proofs.Chips.{held, flush-leaves, free-none}
@@ -269,6 +269,7 @@ kind-fault Addr o s f n k p q = absurd (true≢false (sym k))
 kind-fault Ctx o s f n k p q = absurd (true≢false (sym k))
 kind-fault AddrCtx o s f n k p q = absurd (true≢false (sym k))
 kind-fault Fetch o s f n k p q = access-fault ToFetch o s f n p q
+kind-fault Domain o s f n k p q = absurd (true≢false (sym k))
 
 fault-answers : (o : Operation) (s : State) (f : ℕ → Translation) (n : ℕ) → alignedAccess o ≡ true → f (o .a) ≡ failed n → effect (o .kind) o s f ≡ (fault n, s)
 fault-answers o s f n p q = kind-fault (o .kind) o s f n (access-parts o p .0) (access-parts o p .1) q

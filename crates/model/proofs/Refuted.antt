@@ -14,14 +14,14 @@ use Rattle.tlb.specs.Places.{Within}
 use Rattle.tlb.proofs.PlaceLaws.{within-none, within-dropped}
 use Rattle.model.specs.Limits.{pageSize, rowSize}
 use Rattle.model.specs.Numbers.{Result, ok, fault, refused, shown, refusalNumber}
-use Rattle.model.specs.reference.Rules.{Translation, found, failed, State, fresh, aligned, accesses, accessSize, outcome, setRegisters, effect, carriedOut, plainStep, trackWord, Scope, own, global, scopeOf, covers, Held, Places, heldScope, matches, heldFor, anyClash, Move, drop, load, isFree, putIn, move, moves, chipStep, flushPlace, flushes, walk, descriptor, tableWord, globalBy, section, bits, value, inMemory, conditions, startConditions, Given, among, contexts, hasRow, refuses7, refuses8, refuses9, refuses10, refuses11, refuses12, refuses13, refuses14, refuses15, refuses16, stale, kept, differs, noted, notedIn, chipOutcome, orWalk}
+use Rattle.model.specs.reference.Rules.{Translation, found, failed, State, fresh, aligned, accesses, accessSize, outcome, setRegisters, effect, carriedOut, plainStep, trackWord, Scope, own, global, scopeOf, covers, Held, Places, heldScope, matches, heldFor, anyClash, Move, drop, load, isFree, putIn, move, moves, chipStep, flushPlace, flushes, walk, descriptor, tableWord, globalBy, domainOf, section, bits, value, inMemory, conditions, startConditions, Given, among, contexts, hasRow, refuses7, refuses8, refuses9, refuses10, refuses11, refuses12, refuses13, refuses14, refuses15, refuses16, refuses17, fieldOf, someField2, stale, kept, differs, noted, notedIn, chipOutcome, orWalk}
 use Rattle.model.specs.reference.Runs.{last, Checker, next, checkerRun, isRefused, told, seen, plainRun, Moment, chipStart, chipNext, chipRun, chipSeen, Holds}
 use Rattle.model.specs.step.Checks.{isSize, sizeFits, firstFailing}
 use Rattle.model.specs.step.Machine.{After, started, stepped}
 use Rattle.model.specs.Demands.{Call, after}
 use Rattle.model.specs.Invisible.{Session, begun, Accepted, checkerRunOf, toldOf, chipStartOf, chipRunOf, plainEnd, atEnd, isAccess, alignedAccess, CouldDiffer, Same, Exactly, Invisible, checker}
 use Rattle.model.specs.Wrong.{SameBegins, SamePlain, SameChip, StaleOnlyThen, StaleAlwaysThen, StartsInUserMode, SaysStaleAtOnce, Orderly, Copies, NeverStale, GoesByTrack, AlikeBut, LooksElsewhere}
-use Rattle.model.specs.Types.{Registers, Operation, Kind, Read, Write, Root, Asid, Mode, All as AllSets, Addr, Ctx, AddrCtx, Fetch, Entry, Pass}
+use Rattle.model.specs.Types.{Registers, Operation, Kind, Read, Write, Root, Asid, Mode, All as AllSets, Addr, Ctx, AddrCtx, Fetch, Domain, Entry, Pass}
 use Rattle.model.proofs.BoolLaws.{and-both, three-or}
 use Rattle.model.proofs.Calls.{firstHolding, given-first, none-some, not-refused, exactly, start-exactly, start-words, track-length, start-track-length, size-passed, checksOf, Begun, begun as begunBy, back as turned, done as noted-then}
 use Rattle.model.proofs.Kept.{begins as fresh-begins, passes-checks, given-16}
@@ -134,14 +134,14 @@ readPage2 = record { kind = Read; a = 0x2000; b = 4; c = 0 }
 
 -- what a TLB can hold of page 2 while the root is 0x80
 unfoldable pub entry2 : Entry
-entry2 = record { frame = 2; ap = 1; section = 1; global = 0; xn = 0 }
+entry2 = record { frame = 2; ap = 1; section = 1; global = 0; xn = 0; domain = 0 }
 
 unfoldable pub held2 : Held
 held2 = held 0 2 entry2
 
 -- the state with this root
 at : ℕ → State
-at root = record { memory = image; registers = record { root = root; context = 0; mode = 0 } }
+at root = record { memory = image; registers = record { root = root; context = 0; mode = 0; domains = 0x55555555 } }
 
 image-length : length image ≡ 12288
 unfolding image
@@ -154,12 +154,12 @@ start-free t e = (rw (image-length, e), rw (image-length, e))
 
 -- none of a change of root does
 root-free : (t : List ℕ) → length t ≡ 3072 → (firstHolding (conditions (toRoot 0x80) (at 0 .registers) image t) ≡ none) × (firstHolding (conditions (toRoot 0) (at 0x80 .registers) image t) ≡ none)
-unfolding conditions firstHolding refuses13 refuses14 refuses7 refuses8 refuses9 refuses10 refuses11 refuses12 refuses15 refuses16 among contexts toRoot at
+unfolding conditions firstHolding refuses13 refuses14 someField2 fieldOf bits refuses7 refuses8 refuses9 refuses10 refuses11 refuses12 refuses17 refuses15 refuses16 among contexts toRoot at
 root-free t e = (rw (image-length, e), rw (image-length, e))
 
 -- and of the read only 16 can
 read-free : (t : List ℕ) → length t ≡ 3072 → firstHolding (conditions readPage2 (at 0 .registers) image t) ≡ cond (refuses16 readPage2 (at 0 .registers) image t) (some 16) none
-unfolding conditions firstHolding refuses13 refuses14 refuses7 refuses8 refuses9 refuses10 refuses11 refuses12 refuses15 among contexts readPage2 at
+unfolding conditions firstHolding refuses13 refuses14 someField2 fieldOf bits refuses7 refuses8 refuses9 refuses10 refuses11 refuses12 refuses17 refuses15 among contexts readPage2 at
 read-free t e = rw (image-length, e)
 
 not-refused-is : (x : Result) → ((r : ℕ) → x ≡ refused r → ⊥) → isRefused x ≡ false
@@ -193,7 +193,7 @@ unfolded-found n e q = let z : _≡_ {A = Bool} true false = cc in true≢false 
 
 -- loaded before the root changes
 loaded-first : Differs 0x80 (load 0 2 ∷ []) (λ i. []) ((toRoot 0, false) ∷ [])
-unfolding last plainRun plainStep carriedOut effect setRegisters fresh chipStart chipRun chipNext chipStep moves move isFree anyClash putIn outcome walk descriptor tableWord section globalBy bits value inMemory heldScope scopeOf covers matches flushPlace flushes Holds readPage2 toRoot entry2 held2 image
+unfolding last plainRun plainStep carriedOut effect setRegisters fresh chipStart chipRun chipNext chipStep moves move isFree anyClash putIn outcome walk descriptor tableWord section globalBy domainOf bits value inMemory heldScope scopeOf covers matches flushPlace flushes Holds readPage2 toRoot entry2 held2 image
 loaded-first = record { holds = inl refl; matching = refl; other = λ q. unfolded-found 0x5 entry2 q }
 
 -- loaded after the first change of root
@@ -202,7 +202,7 @@ afterFirst zero = load 0 2 ∷ []
 afterFirst (suc i) = []
 
 loaded-between : Differs 0 [] afterFirst ((toRoot 0x80, false) ∷ (toRoot 0, false) ∷ [])
-unfolding last plainRun plainStep carriedOut effect setRegisters fresh chipStart chipRun chipNext chipStep moves move isFree anyClash putIn outcome walk descriptor tableWord section globalBy bits value inMemory heldScope scopeOf covers matches flushPlace flushes Holds readPage2 toRoot entry2 held2 image afterFirst
+unfolding last plainRun plainStep carriedOut effect setRegisters fresh chipStart chipRun chipNext chipStep moves move isFree anyClash putIn outcome walk descriptor tableWord section globalBy domainOf bits value inMemory heldScope scopeOf covers matches flushPlace flushes Holds readPage2 toRoot entry2 held2 image afterFirst
 loaded-between = record { holds = inl refl; matching = refl; other = λ q. unfolded-found 0x5 entry2 q }
 
 -- under root 0 page 2 is not mapped, and an empty word makes it not stale
@@ -471,6 +471,7 @@ named-size Addr a b c p s = absurd (true≢false (sym p))
 named-size Ctx a b c p s = absurd (true≢false (sym p))
 named-size AddrCtx a b c p s = absurd (true≢false (sym p))
 named-size Fetch a b c p s = refl
+named-size Domain a b c p s = absurd (true≢false (sym p))
 
 passes-16 : (x : Call) → shown (after x .answer) ≡ refused 16 → firstFailing (checksOf x) ≡ Pass
 passes-16 x q = passes-checks x (λ r e. same r (sym q ∙ e))

@@ -1,14 +1,14 @@
--- The step's permissions are the reference's table of rights.
+-- The step's permissions are the reference's table of rights, and its rulings are the reference's.
 use Prim.Native.Nat.{ℕ, _≤_}
 use mathlib.Core.Path.{_≡_, refl, sym, ap, _∙_}
 use mathlib.Core.Bool.{Bool, true, false, cond, _&&_}
 use native.Mathlib.Omega.{arith}
 use lib.Dec.{eqb, leb}
 use lib.ListN.{getD, List·getD-eq-default}
-use borrow.Author.Tests.{le-leb, lt-leb, ne-eqb}
-use Rattle.model.specs.reference.Rules.{Right, nothing, reading, writing, rights, rightOf, mayRead, mayWrite, permits}
-use Rattle.model.specs.step.Rights.{kernelRights, userRights, rightsOf, permitted}
-use Rattle.model.specs.Types.{Purpose, ToRead, ToWrite, ToFetch}
+use borrow.Author.Tests.{eqb-true, le-leb, lt-leb, ne-eqb}
+use Rattle.model.specs.reference.Rules.{Right, nothing, reading, writing, rights, rightOf, mayRead, mayWrite, permits, ruling}
+use Rattle.model.specs.step.Rights.{kernelRights, userRights, rightsOf, permitted, rulingOf}
+use Rattle.model.specs.Types.{Purpose, ToRead, ToWrite, ToFetch, Ruling, Allowed, PermissionDenied, DomainDenied}
 use Rattle.model.proofs.BoolLaws.{push, allBelow, by-table}
 
 -- a right as the step counts it
@@ -69,8 +69,21 @@ may-fetch nothing xn = refl
 may-fetch reading xn = refl
 may-fetch writing xn = refl
 
-pub rights-same : (ap mode : ℕ) (purpose : Purpose) (xn : ℕ) → permitted ap mode purpose xn ≡ permits purpose (rightOf ap mode) xn
+rights-same : (ap mode : ℕ) (purpose : Purpose) (xn : ℕ) → permitted ap mode purpose xn ≡ permits purpose (rightOf ap mode) xn
 unfolding permitted permits
 rights-same ap mode ToRead xn = rw (rights-level ap mode) (may-read (rightOf ap mode))
 rights-same ap mode ToWrite xn = rw (rights-level ap mode) (may-write (rightOf ap mode))
 rights-same ap mode ToFetch xn = rw (rights-level ap mode) (may-fetch (rightOf ap mode) xn)
+
+-- by the field of a domain: the tests for 1 and for 3 in either order
+pub ruling-same : (ap mode : ℕ) (purpose : Purpose) (field xn : ℕ) → rulingOf ap mode purpose field xn ≡ ruling ap mode purpose field xn
+unfolding rulingOf ruling
+ruling-same ap mode purpose field xn = rw (rights-same ap mode purpose xn) (go (eqb field 1) (eqb field 3) refl refl)
+  where
+    permission : Ruling
+    permission = cond (permits purpose (rightOf ap mode) xn) Allowed PermissionDenied
+
+    go : (x y : Bool) → eqb field 1 ≡ x → eqb field 3 ≡ y → cond y Allowed (cond x permission DomainDenied) ≡ cond x permission (cond y Allowed DomainDenied)
+    go true true p q = absurd (let z : ⊥ = omega (arith, eqb-true field 1 p, eqb-true field 3 q) in z)
+    go true false p q = refl
+    go false y p q = refl

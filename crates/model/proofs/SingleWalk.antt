@@ -14,7 +14,7 @@ use Rattle.model.specs.step.Checks.{memoryFits, rootFits}
 use Rattle.model.specs.step.Walk.{walkPage}
 use Rattle.model.specs.step.WalkAnswer.{outcomeNumber, walkAnswer}
 use Rattle.model.specs.Demands.{SingleWalk}
-use Rattle.model.specs.Types.{Fault, Alignment, FirstUnmapped, SecondUnmapped, SectionPermission, PagePermission, FirstOutside, SecondOutside, AccessOutside, Outcome, Mapped, Failed}
+use Rattle.model.specs.Types.{Fault, Alignment, FirstUnmapped, SecondUnmapped, SectionDomain, PageDomain, SectionPermission, PagePermission, FirstOutside, SecondOutside, AccessOutside, Outcome, Mapped, Failed}
 use Rattle.model.proofs.BoolLaws.{three-and, not-ltb}
 use Rattle.model.proofs.Walk.{translation, walk-same}
 use Rattle.model.proofs.Words.{InRange, word-same, walk-range}
@@ -36,6 +36,8 @@ fault-small : (f : Fault) → faultNumber f < 16
 fault-small Alignment = omega arith
 fault-small FirstUnmapped = omega arith
 fault-small SecondUnmapped = omega arith
+fault-small SectionDomain = omega arith
+fault-small PageDomain = omega arith
 fault-small SectionPermission = omega arith
 fault-small PagePermission = omega arith
 fault-small FirstOutside = omega arith

@@ -14,7 +14,7 @@ use Rattle.model.specs.step.Walk.{walkPage}
 use Rattle.model.specs.step.Rows.{mapWords, inRow, eachRow}
 use Rattle.model.specs.step.Checks.{contextFits}
 use Rattle.model.specs.step.Track.{addOutcome, notePage, noteRow, lastRow, noteTrack, emptyPage, emptyRow, flushAll, flushPage, flushContext, flushPageIn}
-use Rattle.model.specs.Types.{Registers, Operation, Kind, Read, Write, Root, Asid, Mode, All, Addr, Ctx, AddrCtx, Fetch}
+use Rattle.model.specs.Types.{Registers, Operation, Kind, Read, Write, Root, Asid, Mode, All, Addr, Ctx, AddrCtx, Fetch, Domain}
 use Rattle.model.proofs.Walk.{translation, walk-same}
 use Rattle.model.proofs.Rows.{Acts, acts-words, length-inRow, word-inRow, length-eachRow, word-eachRow}
 use Rattle.model.proofs.Words.{rowKind, walk-range, note-same, noted-elsewhere}
@@ -185,6 +185,7 @@ flushOf Addr o t = flushPage (o .a / pageSize) t
 flushOf Ctx o t = flushContext (o .a) t
 flushOf AddrCtx o t = flushPageIn (o .b) (o .a / pageSize) t
 flushOf Fetch o t = t
+flushOf Domain o t = t
 
 -- every set, and every set of a row
 abbrev cleared : ℕ → ℕ → ℕ
@@ -237,6 +238,7 @@ flushed-word Addr o t k f u p h q = each-row (acts-page (o .a / pageSize)) t k u
 flushed-word Ctx o t k f u p h q = context-flushed t o (ltb-true (o .a) (contexts t) f) u p q
 flushed-word AddrCtx o t k f u p h q = page-flushed t o (ltb-true (o .b) (contexts t) f) u p h q
 flushed-word Fetch o t k f u p h q = refl
+flushed-word Domain o t k f u p h q = refl
 
 pub flushed-length : (k : Kind) (o : Operation) (t : List ℕ) → contextFits k (o .a) (o .b) (contexts t) ≡ true → length (flushOf k o t) ≡ length t
 unfolding flushOf flushAll flushPage flushContext flushPageIn contextFits
@@ -250,6 +252,7 @@ flushed-length Addr o t f = each-length (acts-page (o .a / pageSize)) t
 flushed-length Ctx o t f = let h = ltb-true (o .a) (contexts t) f in one-length acts-clear t (o .a) (own-in t (omega arith) (o .a) h)
 flushed-length AddrCtx o t f = both-length (acts-page (o .a / pageSize)) (acts-page (o .a / pageSize)) t (o .b) (ltb-true (o .b) (contexts t) f)
 flushed-length Fetch o t f = refl
+flushed-length Domain o t f = refl
 
 -- flushing, then noting with the state left
 pub word-after : (k : Kind) (o : Operation) (m : List ℕ) (r : Registers) (t : List ℕ) →

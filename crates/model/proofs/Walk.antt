@@ -8,10 +8,10 @@ use lib.Dec.{eqb}
 use borrow.Author.Tests.{eqb-true, eqb-false}
 use Rattle.model.specs.Limits.{pageSize, sectionSize}
 use Rattle.model.specs.Numbers.{faultNumber}
-use Rattle.model.specs.reference.Rules.{Translation, found, failed, inMemory, value, bits, descriptor, globalBy, section, largePage, smallPage, pageWord, tableWord, walk}
+use Rattle.model.specs.reference.Rules.{Translation, found, failed, inMemory, value, bits, descriptor, globalBy, domainOf, section, largePage, smallPage, pageWord, tableWord, walk}
 use Rattle.model.specs.step.Memory.{within, numberAt, loadAt}
-use Rattle.model.specs.step.Walk.{kindOf, superBit, tableOf, sectionEntry, largeEntry, smallEntry, descriptorAt, firstOf, firstFrom, firstAt, secondOf, secondFrom, secondAt, walkFrom, walkPage}
-use Rattle.model.specs.Types.{Entry, FirstUnmapped, SecondUnmapped, Four, Loaded, Value, Outside, FirstLevel, Failing, Table, Section, Outcome, Mapped, Failed}
+use Rattle.model.specs.step.Walk.{kindOf, superBit, pointerOf, firstDomain, sectionEntry, largeEntry, smallEntry, descriptorAt, firstOf, firstFrom, firstAt, secondOf, secondFrom, secondAt, walkFrom, walkPage}
+use Rattle.model.specs.Types.{Entry, FirstUnmapped, SecondUnmapped, Four, Loaded, Value, Outside, Pointer, FirstLevel, Failing, Table, Section, Outcome, Mapped, Failed}
 use Rattle.model.proofs.BoolLaws.{push}
 use Rattle.model.proofs.Memory.{within-same, number-same}
 
@@ -30,59 +30,66 @@ global-same x h = go (eqb x 0) refl
     go false e = let q = eqb-false x 0 e in omega arith
 
 -- the entries of the three kinds of mapping
-with-bits : (e : Entry) (g x : ℕ) → e .global ≡ g → e .xn ≡ x → e ≡ record { frame = e .frame; ap = e .ap; section = e .section; global = g; xn = x }
-with-bits e g x p q = λ i. record { frame = e .frame; ap = e .ap; section = e .section; global = p i; xn = q i }
+with-bits : (e : Entry) (g x : ℕ) → e .global ≡ g → e .xn ≡ x →
+    e ≡ record { frame = e .frame; ap = e .ap; section = e .section; global = g; xn = x; domain = e .domain }
+with-bits e g x p q = λ i. record { frame = e .frame; ap = e .ap; section = e .section; global = p i; xn = q i; domain = e .domain }
 
 section-same : (a w : ℕ) → sectionEntry w (a / pageSize) ≡ section a w
-unfolding section bits
+unfolding section domainOf bits
 section-same a w = with-bits (sectionEntry w (a / pageSize)) _ (bits 4 4 w) (global-same (w / 131072 % 2) (omega arith)) refl
 
-large-same : (a w : ℕ) → largeEntry w (a / pageSize) ≡ largePage a w
+large-same : (a d w : ℕ) → largeEntry w (a / pageSize) d ≡ largePage a d w
 unfolding largePage bits
-large-same a w = with-bits (largeEntry w (a / pageSize)) _ (bits 15 15 w) (global-same (w / 2048 % 2) (omega arith)) refl
+large-same a d w = with-bits (largeEntry w (a / pageSize) d) _ (bits 15 15 w) (global-same (w / 2048 % 2) (omega arith)) refl
 
-small-same : (w : ℕ) → smallEntry w ≡ smallPage w
+small-same : (d w : ℕ) → smallEntry w d ≡ smallPage d w
 unfolding smallPage bits
-small-same w = with-bits (smallEntry w) _ (bits 0 0 w) (global-same (w / 2048 % 2) (omega arith)) (omega arith)
+small-same d w = with-bits (smallEntry w d) _ (bits 0 0 w) (global-same (w / 2048 % 2) (omega arith)) (omega arith)
 
 kind-same : (w : ℕ) → kindOf w ≡ bits 1 0 w
 unfolding bits
 kind-same w = omega arith
 
 -- level two
-second-tests : (a w : ℕ) (x y : Bool) →
-    translation (cond x (Failed SecondUnmapped) (cond y (Mapped (largeEntry w (a / pageSize))) (Mapped (smallEntry w))))
-    ≡ cond x (failed 0x7) (cond y (found (largePage a w)) (found (smallPage w)))
-second-tests a w true y = refl
-second-tests a w false true = ap found (large-same a w)
-second-tests a w false false = ap found (small-same w)
+second-tests : (a d w : ℕ) (x y : Bool) →
+    translation (cond x (Failed SecondUnmapped) (cond y (Mapped (largeEntry w (a / pageSize) d)) (Mapped (smallEntry w d))))
+    ≡ cond x (failed 0x7) (cond y (found (largePage a d w)) (found (smallPage d w)))
+second-tests a d w true y = refl
+second-tests a d w false true = ap found (large-same a d w)
+second-tests a d w false false = ap found (small-same d w)
 
-second-same : (a w : ℕ) → translation (secondOf w (a / pageSize)) ≡ pageWord a w
+second-same : (a d w : ℕ) → translation (secondOf w (a / pageSize) d) ≡ pageWord a d w
 unfolding secondOf pageWord
-second-same a w = rw (sym (kind-same w)) (second-tests a w (eqb (kindOf w) 0) (eqb (kindOf w) 1))
+second-same a d w = rw (sym (kind-same w)) (second-tests a d w (eqb (kindOf w) 0) (eqb (kindOf w) 1))
 
-secondAt-same : (m : List ℕ) (table a : ℕ) → translation (secondAt m table (a / pageSize)) ≡ descriptor m (table + 4 * (a / pageSize % 256)) 0xe (pageWord a)
+secondAt-same : (m : List ℕ) (p : Pointer) (a : ℕ) →
+    translation (secondAt m p (a / pageSize)) ≡ descriptor m (p .base + 4 * (a / pageSize % 256)) 0xe (pageWord a (p .domain))
 unfolding secondAt descriptor loadAt
-secondAt-same m table a =
-    let at : ℕ = table + 4 * (a / pageSize % 256) in
-    push (λ x. translation (secondFrom x (a / pageSize))) (within Four m at) (Value (numberAt Four m at)) Outside
-    ∙ ap (λ n. cond (within Four m at) n (failed 0xe)) (second-same a (numberAt Four m at) ∙ ap (pageWord a) (number-same Four m at))
-    ∙ ap (λ b. cond b (pageWord a (value m at 4)) (failed 0xe)) (within-same Four m at)
+secondAt-same m p a =
+    let at : ℕ = p .base + 4 * (a / pageSize % 256) in
+    let d : ℕ = p .domain in
+    push (λ x. translation (secondFrom x (a / pageSize) d)) (within Four m at) (Value (numberAt Four m at)) Outside
+    ∙ ap (λ n. cond (within Four m at) n (failed 0xe)) (second-same a d (numberAt Four m at) ∙ ap (pageWord a d) (number-same Four m at))
+    ∙ ap (λ b. cond b (pageWord a d (value m at 4)) (failed 0xe)) (within-same Four m at)
 
 -- level one
-table-same : (w : ℕ) → tableOf w ≡ bits 31 10 w * 1024
+table-same : (w : ℕ) → pointerOf w .base ≡ bits 31 10 w * 1024
 unfolding bits
 table-same w = refl
+
+domain-same : (w : ℕ) → firstDomain w ≡ domainOf w
+unfolding domainOf bits
+domain-same w = refl
 
 super-same : (w : ℕ) → superBit w ≡ bits 18 18 w
 unfolding bits
 super-same w = refl
 
 first-tests : (m : List ℕ) (a w : ℕ) (x y z : Bool) →
-    translation (walkFrom (cond x (Table (tableOf w)) (cond y (cond z (Section (sectionEntry w (a / pageSize))) (Failing FirstUnmapped)) (Failing FirstUnmapped))) m (a / pageSize))
-    ≡ cond x (descriptor m (bits 31 10 w * 1024 + 4 * (a / pageSize % 256)) 0xe (pageWord a)) (cond (y && z) (found (section a w)) (failed 0x5))
-unfolding bits
-first-tests m a w true y z = secondAt-same m (tableOf w) a
+    translation (walkFrom (cond x (Table (pointerOf w)) (cond y (cond z (Section (sectionEntry w (a / pageSize))) (Failing FirstUnmapped)) (Failing FirstUnmapped))) m (a / pageSize))
+    ≡ cond x (descriptor m (bits 31 10 w * 1024 + 4 * (a / pageSize % 256)) 0xe (pageWord a (domainOf w))) (cond (y && z) (found (section a w)) (failed 0x5))
+unfolding domainOf bits
+first-tests m a w true y z = secondAt-same m (pointerOf w) a
 first-tests m a w false true true = ap found (section-same a w)
 first-tests m a w false true false = refl
 first-tests m a w false false z = refl

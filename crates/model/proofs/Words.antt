@@ -10,7 +10,7 @@ use Rattle.model.specs.Limits.{wordLimit}
 use Rattle.model.specs.Numbers.{faultNumber}
 use Rattle.model.specs.reference.Rules.{Translation, found, failed, bits, Scope, own, global, scopeOf, covers, sameScope, Kept, empty, one, several, wordOf, entryOf, suits, kept, same, addTo, noted, differs}
 use Rattle.model.specs.step.Memory.{loadAt}
-use Rattle.model.specs.step.Walk.{kindOf, superBit, tableOf, firstOf, firstFrom, firstAt, secondOf, secondFrom, secondAt, walkFrom, walkPage, sectionEntry, largeEntry, smallEntry, descriptorAt}
+use Rattle.model.specs.step.Walk.{kindOf, superBit, pointerOf, firstDomain, firstOf, firstFrom, firstAt, secondOf, secondFrom, secondAt, walkFrom, walkPage, sectionEntry, largeEntry, smallEntry, descriptorAt}
 use Rattle.model.specs.step.Track.{entryWord, isEntry, addEntry, addOutcome, staleWord}
 use Rattle.model.specs.Types.{Entry, FirstUnmapped, SecondUnmapped, Loaded, Value, Outside, FirstLevel, Failing, Table, Section, Outcome, Mapped, Failed}
 use Rattle.model.proofs.BoolLaws.{same-test, eqb-same, either, and-both}
@@ -24,34 +24,34 @@ InRange (Failed f) = Unit {0}
 -- ── Each entry that a walk finds is in range ──
 
 section-fits : (w page : ℕ) → Fits (sectionEntry w page)
-section-fits w page = (omega arith, (omega arith, (omega arith, (omega arith, omega arith))))
+section-fits w page = (omega arith, (omega arith, (omega arith, (omega arith, (omega arith, omega arith)))))
 
-large-fits : (w page : ℕ) → Fits (largeEntry w page)
-large-fits w page = (omega arith, (omega arith, (omega arith, (omega arith, omega arith))))
+large-fits : (w page d : ℕ) → d < 16 → Fits (largeEntry w page d)
+large-fits w page d h = (omega arith, (omega arith, (omega arith, (omega arith, (omega arith, h)))))
 
-small-fits : (w : ℕ) → Fits (smallEntry w)
-small-fits w = (omega arith, (omega arith, (omega arith, (omega arith, omega arith))))
+small-fits : (w d : ℕ) → d < 16 → Fits (smallEntry w d)
+small-fits w d h = (omega arith, (omega arith, (omega arith, (omega arith, (omega arith, h)))))
 
-second-range : (w page : ℕ) → InRange (secondOf w page)
+second-range : (w page d : ℕ) → d < 16 → InRange (secondOf w page d)
 unfolding secondOf
-second-range w page = go (eqb (kindOf w) 0) (eqb (kindOf w) 1)
+second-range w page d h = go (eqb (kindOf w) 0) (eqb (kindOf w) 1)
   where
-    go : (x y : Bool) → InRange (cond x (Failed SecondUnmapped) (cond y (Mapped (largeEntry w page)) (Mapped (smallEntry w))))
+    go : (x y : Bool) → InRange (cond x (Failed SecondUnmapped) (cond y (Mapped (largeEntry w page d)) (Mapped (smallEntry w d))))
     go true y = tt
-    go false true = large-fits w page
-    go false false = small-fits w
+    go false true = large-fits w page d h
+    go false false = small-fits w d h
 
-second-from : (x : Loaded) (page : ℕ) → InRange (secondFrom x page)
-second-from (Value w) page = second-range w page
-second-from Outside page = tt
+second-from : (x : Loaded) (page d : ℕ) → d < 16 → InRange (secondFrom x page d)
+second-from (Value w) page d h = second-range w page d h
+second-from Outside page d h = tt
 
 first-range : (m : List ℕ) (w page : ℕ) → InRange (walkFrom (firstOf w page) m page)
 unfolding firstOf secondAt
 first-range m w page = go (eqb (kindOf w) 1) (eqb (kindOf w) 2) (eqb (superBit w) 0)
   where
     go : (x y z : Bool) →
-        InRange (walkFrom (cond x (Table (tableOf w)) (cond y (cond z (Section (sectionEntry w page)) (Failing FirstUnmapped)) (Failing FirstUnmapped))) m page)
-    go true y z = second-from (descriptorAt m (tableOf w + 4 * (page % 256))) page
+        InRange (walkFrom (cond x (Table (pointerOf w)) (cond y (cond z (Section (sectionEntry w page)) (Failing FirstUnmapped)) (Failing FirstUnmapped))) m page)
+    go true y z = second-from (descriptorAt m (pointerOf w .base + 4 * (page % 256))) page (firstDomain w) (omega arith)
     go false true true = section-fits w page
     go false true false = tt
     go false false z = tt
@@ -117,26 +117,27 @@ in-no-row global c e p = absurd (true≢false p)
 -- ── Words of a row ──
 
 -- the fields of a word, and what lies below them
-fields : (w : ℕ) → w < wordLimit → w ≡ w / 4096 % 1048576 * 4096 + w / 512 % 8 * 512 + w / 256 % 2 * 256 + w / 128 % 2 * 128 + w / 64 % 2 * 64 + w % 64
+fields : (w : ℕ) → w < wordLimit → w ≡ w / 4096 % 1048576 * 4096 + w / 512 % 8 * 512 + w / 256 % 2 * 256 + w / 128 % 2 * 128 + w / 64 % 2 * 64 + w / 4 % 16 * 4 + w % 4
 fields w h =
     let frames : w / 4096 % 1048576 ≡ w / 4096 = omega arith in
     let aps : w / 512 ≡ w / 4096 * 8 + w / 512 % 8 = omega arith in
     let sections : w / 256 ≡ w / 512 * 2 + w / 256 % 2 = omega arith in
     let globals : w / 128 ≡ w / 256 * 2 + w / 128 % 2 = omega arith in
     let xns : w / 64 ≡ w / 128 * 2 + w / 64 % 2 = omega arith in
-    let rest : w ≡ w / 64 * 64 + w % 64 = omega arith in
-    sum (w / 4096 % 1048576) (w / 4096) (w / 512) (w / 512 % 8) (w / 256) (w / 256 % 2) (w / 128) (w / 128 % 2) (w / 64) (w / 64 % 2) w (w % 64)
-    frames aps sections globals xns rest
+    let domains : w / 4 ≡ w / 64 * 16 + w / 4 % 16 = omega arith in
+    let rest : w ≡ w / 4 * 4 + w % 4 = omega arith in
+    sum (w / 4096 % 1048576) (w / 4096) (w / 512) (w / 512 % 8) (w / 256) (w / 256 % 2) (w / 128) (w / 128 % 2) (w / 64) (w / 64 % 2)
+    (w / 4) (w / 4 % 16) w (w % 4) frames aps sections globals xns domains rest
   where
-    sum : (f a b c d e g h k l w r : ℕ) → f ≡ a → b ≡ a * 8 + c → d ≡ b * 2 + e → g ≡ d * 2 + h → k ≡ g * 2 + l → w ≡ k * 64 + r →
-        w ≡ f * 4096 + c * 512 + e * 256 + h * 128 + l * 64 + r
-    sum f a b c d e g h k l w r p q s t u v = omega arith
+    sum : (f a b c d e g h k l x y w r : ℕ) → f ≡ a → b ≡ a * 8 + c → d ≡ b * 2 + e → g ≡ d * 2 + h → k ≡ g * 2 + l → x ≡ k * 16 + y → w ≡ x * 4 + r →
+        w ≡ f * 4096 + c * 512 + e * 256 + h * 128 + l * 64 + y * 4 + r
+    sum f a b c d e g h k l x y w r p q s t u v z = omega arith
 
 -- a word is that of its entry exactly if it has the low bits of an entry's word
-low-bits : (w : ℕ) → w < wordLimit → eqb (w % 64) 2 ≡ eqb w (wordOf (entryOf w))
+low-bits : (w : ℕ) → w < wordLimit → eqb (w % 4) 2 ≡ eqb w (wordOf (entryOf w))
 unfolding wordOf entryOf bits
 low-bits w h =
-    by (w / 4096 % 1048576 * 4096 + w / 512 % 8 * 512 + w / 256 % 2 * 256 + w / 128 % 2 * 128 + w / 64 % 2 * 64) (w % 64) (fields w h)
+    by (w / 4096 % 1048576 * 4096 + w / 512 % 8 * 512 + w / 256 % 2 * 256 + w / 128 % 2 * 128 + w / 64 % 2 * 64 + w / 4 % 16 * 4) (w % 4) (fields w h)
   where
     by : (x r : ℕ) → w ≡ x + r → eqb r 2 ≡ eqb w (x + 2)
     by x r e = eqb-same r 2 w (x + 2) (λ q. omega arith) (λ q. omega arith)
@@ -157,9 +158,9 @@ single-same u w = go (ltb w wordLimit) refl ∙ ap (_&&_ (eqb w (wordOf (entryOf
     too-large h q = let z : wordOf (entryOf w) < wordLimit = unfold wordOf entryOf bits in omega arith in omega arith
 
     go : (b : Bool) → ltb w wordLimit ≡ b →
-        cond b (cond (eqb (w % 64) 2) (eqb (w / 128 % 2) (rowKind u)) false) false ≡ (eqb w (wordOf (entryOf w)) && eqb (entryOf w .global) (rowKind u))
+        cond b (cond (eqb (w % 4) 2) (eqb (w / 128 % 2) (rowKind u)) false) false ≡ (eqb w (wordOf (entryOf w)) && eqb (entryOf w .global) (rowKind u))
     go true e =
-        both (eqb (w % 64) 2) (eqb (w / 128 % 2) (rowKind u))
+        both (eqb (w % 4) 2) (eqb (w / 128 % 2) (rowKind u))
         ∙ ap₂ (λ x n. x && eqb n (rowKind u)) (low-bits w (ltb-true w wordLimit e)) (sym global-bit)
     go false e =
         ap (λ x. x && eqb (entryOf w .global) (rowKind u)) (sym (ne-eqb w (wordOf (entryOf w)) (too-large (ltb-false w wordLimit e))))

@@ -48,7 +48,7 @@ pub record Total : Type 0 where
   -- the same of start, which returns zero registers when refused
   pub startExactly : (m t : List ℕ) (root r : ℕ) → (shown (started m t root .answer) ≡ refused r) ↔ Given r (startConditions m t root)
   pub startUnchanged : (m t : List ℕ) (root r : ℕ) → shown (started m t root .answer) ≡ refused r →
-      Leaves (started m t root) (record { root = 0; context = 0; mode = 0 }) m t
+      Leaves (started m t root) (record { root = 0; context = 0; mode = 0; domains = 0 }) m t
 
 -- A call that is not refused is carried out by the rules.
 pub record Faithful : Type 0 where
@@ -68,7 +68,7 @@ pub record Faithful : Type 0 where
 pub record OddWords : Type 0 where
   -- a word that is neither 0 nor the word of an entry that suits its row counts as several
   pub counts : (u : Scope) (w : ℕ) → (w ≡ 0 → ⊥) →
-      ((e : Entry) → e .frame < 0x100000 → e .ap < 8 → e .section < 2 → e .global < 2 → e .xn < 2 → suits u e ≡ true → w ≡ wordOf e → ⊥) → kept u w ≡ several
+      ((e : Entry) → e .frame < 0x100000 → e .ap < 8 → e .section < 2 → e .global < 2 → e .xn < 2 → e .domain < 16 → suits u e ≡ true → w ≡ wordOf e → ⊥) → kept u w ≡ several
   -- a word that counts as several stays as found under noting
   pub stays : (x : Call) → ((r : ℕ) → Given r (conditionsOf x) → ⊥) → (u : Scope) (p : ℕ) → hasRow (x .track) u ≡ true → p < rowSize →
       kept u (trackWord (x .track) u p) ≡ several → flushes (x .operation .kind) (x .operation) u p ≡ false →

@@ -6,4 +6,5 @@ pub mod reference
 pub mod step
 pub mod Demands
 pub mod Invisible
+pub mod Domains
 pub mod Wrong

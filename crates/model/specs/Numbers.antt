@@ -1,7 +1,7 @@
 -- The numbers that the rules give to kinds, faults and refusals, and what an answer shows.
 use Prim.Native.Nat.{ℕ}
 use mathlib.Core.Option.{Option, none, some}
-use Rattle.model.specs.Types.{Kind, Read, Write, Root, Asid, Mode, All, Addr, Ctx, AddrCtx, Fetch, Fault, Alignment, FirstUnmapped, SecondUnmapped, SectionPermission, PagePermission, FirstOutside, SecondOutside, AccessOutside, Refusal, WrongSize, WrongAddress, WrongValue, WrongRoot, WrongContext, WrongMode, WrongLengths, WrongRegisters, UserMode, StalePage, Answer, Done, Faulted, Refused, Check, Pass, Refuse}
+use Rattle.model.specs.Types.{Kind, Read, Write, Root, Asid, Mode, All, Addr, Ctx, AddrCtx, Fetch, Domain, Fault, Alignment, FirstUnmapped, SecondUnmapped, SectionDomain, PageDomain, SectionPermission, PagePermission, FirstOutside, SecondOutside, AccessOutside, Refusal, WrongSize, WrongAddress, WrongValue, WrongRoot, WrongContext, WrongMode, WrongLengths, WrongRegisters, UserMode, StalePage, WrongDomains, Answer, Done, Faulted, Refused, Check, Pass, Refuse}
 
 -- the place of a kind in the rules' list of operations
 abbrev pub kindNumber : Kind → ℕ
@@ -15,12 +15,15 @@ kindNumber Addr = 6
 kindNumber Ctx = 7
 kindNumber AddrCtx = 8
 kindNumber Fetch = 9
+kindNumber Domain = 10
 
 -- the short-descriptor status codes
 abbrev pub faultNumber : Fault → ℕ
 faultNumber Alignment = 0x1
 faultNumber FirstUnmapped = 0x5
 faultNumber SecondUnmapped = 0x7
+faultNumber SectionDomain = 0x9
+faultNumber PageDomain = 0xb
 faultNumber SectionPermission = 0xd
 faultNumber PagePermission = 0xf
 faultNumber FirstOutside = 0xc
@@ -38,6 +41,7 @@ refusalNumber WrongLengths = 13
 refusalNumber WrongRegisters = 14
 refusalNumber UserMode = 15
 refusalNumber StalePage = 16
+refusalNumber WrongDomains = 17
 
 -- An answer as the rules name it: `ok` with the value read or 0, `fault` with its number, `refused` with its number.
 pub data Result : Type 0 where

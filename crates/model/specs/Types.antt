@@ -1,13 +1,13 @@
 -- The types of src/lib.rt and their constructors, under one roof.
 pub use Rattle.model.specs.declared.Registers.{Registers}
 pub use Rattle.model.specs.declared.Kind.{Kind}
-pub use Rattle.model.specs.declared.Kind.the-variants.{Read, Write, Root, Asid, Mode, All, Addr, Ctx, AddrCtx, Fetch}
+pub use Rattle.model.specs.declared.Kind.the-variants.{Read, Write, Root, Asid, Mode, All, Addr, Ctx, AddrCtx, Fetch, Domain}
 pub use Rattle.model.specs.declared.Operation.{Operation}
 pub use Rattle.model.specs.declared.Entry.{Entry}
 pub use Rattle.model.specs.declared.Fault.{Fault}
-pub use Rattle.model.specs.declared.Fault.the-variants.{Alignment, FirstUnmapped, SecondUnmapped, SectionPermission, PagePermission, FirstOutside, SecondOutside, AccessOutside}
+pub use Rattle.model.specs.declared.Fault.the-variants.{Alignment, FirstUnmapped, SecondUnmapped, SectionDomain, PageDomain, SectionPermission, PagePermission, FirstOutside, SecondOutside, AccessOutside}
 pub use Rattle.model.specs.declared.Refusal.{Refusal}
-pub use Rattle.model.specs.declared.Refusal.the-variants.{WrongSize, WrongAddress, WrongValue, WrongRoot, WrongContext, WrongMode, WrongLengths, WrongRegisters, UserMode, StalePage}
+pub use Rattle.model.specs.declared.Refusal.the-variants.{WrongSize, WrongAddress, WrongValue, WrongRoot, WrongContext, WrongMode, WrongLengths, WrongRegisters, UserMode, StalePage, WrongDomains}
 pub use Rattle.model.specs.declared.Answer.{Answer}
 pub use Rattle.model.specs.declared.Answer.the-variants.{Done, Faulted, Refused}
 pub use Rattle.model.specs.declared.Returned.{Returned}
@@ -17,6 +17,9 @@ pub use Rattle.model.specs.declared.Purpose.{Purpose}
 pub use Rattle.model.specs.declared.Purpose.the-variants.{ToRead, ToWrite, ToFetch}
 pub use Rattle.model.specs.declared.Loaded.{Loaded}
 pub use Rattle.model.specs.declared.Loaded.the-variants.{Value, Outside}
+pub use Rattle.model.specs.declared.Ruling.{Ruling}
+pub use Rattle.model.specs.declared.Ruling.the-variants.{Allowed, PermissionDenied, DomainDenied}
+pub use Rattle.model.specs.declared.Pointer.{Pointer}
 pub use Rattle.model.specs.declared.FirstLevel.{FirstLevel}
 pub use Rattle.model.specs.declared.FirstLevel.the-variants.{Failing, Table, Section}
 pub use Rattle.model.specs.declared.Outcome.{Outcome}

@@ -1,11 +1,13 @@
 // The types of the machine: registers, operations, answers, entries and what a walk finds. Their meaning in numbers
 // stands in specs/Numbers.antt.
 
-// The registers: the address of the level-one table, the current context (an ASID) and the mode, 0 kernel or 1 user.
+// The registers: the address of the level-one table, the current context (an ASID), the mode, 0 kernel or 1 user, and the domain
+// register, which has a field of two bits for each of sixteen domains.
 pub struct Registers {
     pub root: u32,
     pub context: u32,
     pub mode: u32,
+    pub domains: u32,
 }
 
 // The kinds of operation, in the order of the rules.
@@ -20,6 +22,7 @@ pub enum Kind {
     Ctx,
     AddrCtx,
     Fetch,
+    Domain,
 }
 
 // An operation with its three fields.
@@ -31,13 +34,15 @@ pub struct Operation {
 }
 
 // What a page maps to: the number of its 4 KiB frame, its access permissions AP[2:0], 1 where a section maps it, else 0, 1 where
-// it is global, so that every context may use it, else 0, and its XN bit: 1 where nothing may be fetched through it, else 0.
+// it is global, so that every context may use it, else 0, its XN bit: 1 where nothing may be fetched through it, else 0, and its
+// domain, 0 to 15.
 pub struct Entry {
     pub frame: u32,
     pub ap: u32,
     pub section: u32,
     pub global: u32,
     pub xn: u32,
+    pub domain: u32,
 }
 
 // Why an operation carried out gave no value.
@@ -45,6 +50,8 @@ pub enum Fault {
     Alignment,
     FirstUnmapped,
     SecondUnmapped,
+    SectionDomain,
+    PageDomain,
     SectionPermission,
     PagePermission,
     FirstOutside,
@@ -64,6 +71,7 @@ pub enum Refusal {
     WrongRegisters,
     UserMode,
     StalePage,
+    WrongDomains,
 }
 
 // What a start or an operation answers: carried out with a value, carried out with a fault, or turned back.
@@ -99,10 +107,23 @@ pub enum Loaded {
     Outside,
 }
 
+// What an entry's domain, access permissions and XN bit say of an access.
+pub enum Ruling {
+    Allowed,
+    PermissionDenied,
+    DomainDenied,
+}
+
+// What a level-one descriptor that points to a level-two table says: the address of the table, and the domain of its pages.
+pub struct Pointer {
+    pub base: u32,
+    pub domain: u32,
+}
+
 // What the level-one descriptor of a page says.
 pub enum FirstLevel {
     Failing(Fault),
-    Table(u32),
+    Table(Pointer),
     Section(Entry),
 }
 

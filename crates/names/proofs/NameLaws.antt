@@ -7,7 +7,7 @@ use native.Mathlib.Omega.{arith}
 use lib.ListN.{length}
 use Rattle.text.specs.Split.{same}
 use Rattle.model.specs.declared.Kind.{Kind}
-use Rattle.model.specs.declared.Kind.the-variants.{Read, Write, Root, Asid, Mode, All, Addr, Ctx, AddrCtx, Fetch}
+use Rattle.model.specs.declared.Kind.the-variants.{Read, Write, Root, Asid, Mode, All, Addr, Ctx, AddrCtx, Fetch, Domain}
 use Rattle.names.specs.declared.Named.the-variants.{Known}
 use Rattle.names.specs.Names.{name, namedIn}
 
@@ -32,6 +32,7 @@ name-most Addr = omega arith
 name-most Ctx = omega arith
 name-most AddrCtx = omega arith
 name-most Fetch = omega arith
+name-most Domain = omega arith
 
 pub name-some : (k : Kind) → 3 ≤ length (name k)
 name-some Read = omega arith
@@ -44,3 +45,4 @@ name-some Addr = omega arith
 name-some Ctx = omega arith
 name-some AddrCtx = omega arith
 name-some Fetch = omega arith
+name-some Domain = omega arith

@@ -7,7 +7,7 @@ use Rattle.text.specs.Quoted.{quoted}
 use Rattle.model.specs.Numbers.{kindNumber}
 use Rattle.text.specs.Split.{same}
 use Rattle.model.specs.declared.Kind.{Kind}
-use Rattle.model.specs.declared.Kind.the-variants.{Read, Write, Root, Asid, Mode, All, Addr, Ctx, AddrCtx, Fetch}
+use Rattle.model.specs.declared.Kind.the-variants.{Read, Write, Root, Asid, Mode, All, Addr, Ctx, AddrCtx, Fetch, Domain}
 use Rattle.names.specs.declared.Named.{Named}
 use Rattle.names.specs.declared.Named.the-variants.{Known, Nothing}
 
@@ -21,7 +21,7 @@ newline = 10
 abbrev pub names : List ℕ
 names = 111 ∷ 112 ∷ 44 ∷ 97 ∷ 44 ∷ 98 ∷ 44 ∷ 99 ∷ []
 
--- the name of an operation: `read`, `write`, `root`, `asid`, `mode`, `all`, `addr`, `ctx`, `addrctx`, `fetch`
+-- the name of an operation: `read`, `write`, `root`, `asid`, `mode`, `all`, `addr`, `ctx`, `addrctx`, `fetch`, `domain`
 abbrev pub name : Kind → List ℕ
 name Read = 114 ∷ 101 ∷ 97 ∷ 100 ∷ []
 name Write = 119 ∷ 114 ∷ 105 ∷ 116 ∷ 101 ∷ []
@@ -33,10 +33,11 @@ name Addr = 97 ∷ 100 ∷ 100 ∷ 114 ∷ []
 name Ctx = 99 ∷ 116 ∷ 120 ∷ []
 name AddrCtx = 97 ∷ 100 ∷ 100 ∷ 114 ∷ 99 ∷ 116 ∷ 120 ∷ []
 name Fetch = 102 ∷ 101 ∷ 116 ∷ 99 ∷ 104 ∷ []
+name Domain = 100 ∷ 111 ∷ 109 ∷ 97 ∷ 105 ∷ 110 ∷ []
 
 -- the operations, in the order of the rules
 abbrev pub kinds : List Kind
-kinds = Read ∷ Write ∷ Root ∷ Asid ∷ Mode ∷ All ∷ Addr ∷ Ctx ∷ AddrCtx ∷ Fetch ∷ []
+kinds = Read ∷ Write ∷ Root ∷ Asid ∷ Mode ∷ All ∷ Addr ∷ Ctx ∷ AddrCtx ∷ Fetch ∷ Domain ∷ []
 
 -- the operation among ks that a name names
 unfoldable pub namedIn : List Kind → List ℕ → Named
@@ -49,5 +50,5 @@ namedOf s = namedIn kinds s
 -- The same in letters: the names line, and the names of the operations in the order of their numbers.
 pub record NamesSpelled : Type 0 where
   pub header : names ≡ quoted "op,a,b,c"
-  pub operations : map name kinds ≡ map quoted ("read" ∷ "write" ∷ "root" ∷ "asid" ∷ "mode" ∷ "all" ∷ "addr" ∷ "ctx" ∷ "addrctx" ∷ "fetch" ∷ [])
-  pub numbers : map kindNumber kinds ≡ 0 ∷ 1 ∷ 2 ∷ 3 ∷ 4 ∷ 5 ∷ 6 ∷ 7 ∷ 8 ∷ 9 ∷ []
+  pub operations : map name kinds ≡ map quoted ("read" ∷ "write" ∷ "root" ∷ "asid" ∷ "mode" ∷ "all" ∷ "addr" ∷ "ctx" ∷ "addrctx" ∷ "fetch" ∷ "domain" ∷ [])
+  pub numbers : map kindNumber kinds ≡ 0 ∷ 1 ∷ 2 ∷ 3 ∷ 4 ∷ 5 ∷ 6 ∷ 7 ∷ 8 ∷ 9 ∷ 10 ∷ []

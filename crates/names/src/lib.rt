@@ -46,6 +46,9 @@ pub fn name_of(s: &[u8]) -> Named
     if text::same(s, b"fetch") {
         return Named::Known(Kind::Fetch);
     }
+    if text::same(s, b"domain") {
+        return Named::Known(Kind::Domain);
+    }
     Named::Nothing
 }
 
@@ -75,5 +78,6 @@ fn copy_name(out: &mut [u8], at: usize, k: Kind) -> usize
         Kind::Ctx => text::put(out, at, b"ctx"),
         Kind::AddrCtx => text::put(out, at, b"addrctx"),
         Kind::Fetch => text::put(out, at, b"fetch"),
+        Kind::Domain => text::put(out, at, b"domain"),
     }
 }

@@ -12,12 +12,13 @@ use Rattle.model.specs.declared.Size.the-variants.{Four}
 use Rattle.model.specs.declared.Loaded.{Loaded}
 use Rattle.model.specs.declared.Loaded.the-variants.{Value, Outside}
 use Rattle.model.specs.declared.Fault.the-variants.{FirstUnmapped}
+use Rattle.model.specs.declared.Pointer.{Pointer}
 use Rattle.model.specs.declared.FirstLevel.{FirstLevel}
 use Rattle.model.specs.declared.FirstLevel.the-variants.{Failing, Table, Section}
 use Rattle.model.specs.declared.Outcome.the-variants.{Mapped}
 use Rattle.model.specs.step.Memory.{numberAt, within, loadAt}
 use Rattle.model.specs.step.Rows.{mapFirst, mapWords}
-use Rattle.model.specs.step.Walk.{kindOf, superBit, tableOf, sectionEntry, descriptorAt, firstOf, firstFrom, firstAt, secondOf, secondFrom, secondAt, walkFrom, walkPage}
+use Rattle.model.specs.step.Walk.{kindOf, superBit, pointerOf, sectionEntry, descriptorAt, firstOf, firstFrom, firstAt, secondOf, secondFrom, secondAt, walkFrom, walkPage}
 use Rattle.model.specs.step.Track.{addOutcome, notePage}
 use Rattle.noting.specs.Mib.{mibPages, noteTable, noteMib}
 use Rattle.track.proofs.Rows.{same-words, from-start, rest-stays, part-length}
@@ -28,7 +29,7 @@ again (Failing f) x i = Failing f
 again (Table t) x i = Table t
 again (Section e) x i = Section (sectionEntry x i)
 
-by-tests : (b c d : Bool) (t x i : ℕ) → cond b (Table t) (cond c (cond d (Section (sectionEntry x i)) (Failing FirstUnmapped)) (Failing FirstUnmapped)) ≡ again (cond b (Table t) (cond c (cond d (Section (sectionEntry x 0)) (Failing FirstUnmapped)) (Failing FirstUnmapped))) x i
+by-tests : (b c d : Bool) (t : Pointer) (x i : ℕ) → cond b (Table t) (cond c (cond d (Section (sectionEntry x i)) (Failing FirstUnmapped)) (Failing FirstUnmapped)) ≡ again (cond b (Table t) (cond c (cond d (Section (sectionEntry x 0)) (Failing FirstUnmapped)) (Failing FirstUnmapped))) x i
 by-tests true c d t x i = refl
 by-tests false true true t x i = refl
 by-tests false true false t x i = refl
@@ -36,25 +37,25 @@ by-tests false false d t x i = refl
 
 first-again : (x i : ℕ) → firstOf x i ≡ again (firstOf x 0) x i
 unfolding firstOf
-first-again x i = by-tests (eqb (kindOf x) 1) (eqb (kindOf x) 2) (eqb (superBit x) 0) (tableOf x) x i
+first-again x i = by-tests (eqb (kindOf x) 1) (eqb (kindOf x) 2) (eqb (superBit x) 0) (pointerOf x) x i
 
 -- pages with one number in their MiB: what a word says of both is the same
 module _ (p q : ℕ) (e : p % mibPages ≡ q % mibPages) where
   in-large : p % 16 ≡ q % 16
   in-large = omega (arith, e)
 
-  second-same : (x : ℕ) → secondOf x p ≡ secondOf x q
+  second-same : (x d : ℕ) → secondOf x p d ≡ secondOf x q d
   unfolding secondOf
-  second-same x = rw in-large
+  second-same x d = rw in-large
 
-  second-from : (x : Loaded) → secondFrom x p ≡ secondFrom x q
-  second-from (Value x) = second-same x
-  second-from Outside = refl
+  second-from : (x : Loaded) (d : ℕ) → secondFrom x p d ≡ secondFrom x q d
+  second-from (Value x) d = second-same x d
+  second-from Outside d = refl
 
-  table-same : (m : List ℕ) (base : ℕ) → secondAt m base p ≡ secondAt m base q
+  table-same : (m : List ℕ) (t : Pointer) → secondAt m t p ≡ secondAt m t q
   unfolding secondAt
-  table-same m base =
-      ap (λ (k : ℕ). secondFrom (descriptorAt m (base + 4 * k)) p) e ∙ second-from (descriptorAt m (base + 4 * (q % mibPages)))
+  table-same m t =
+      ap (λ (k : ℕ). secondFrom (descriptorAt m (t .base + 4 * k)) p (t .domain)) e ∙ second-from (descriptorAt m (t .base + 4 * (q % mibPages))) (t .domain)
 
   section-same : (x : ℕ) → sectionEntry x p ≡ sectionEntry x q
   section-same x = rw e
@@ -105,20 +106,20 @@ pub no-change : (l : List ℕ) → l ≡ mapWords (λ (i w : ℕ). w) l
 no-change l = rest-stays (λ (i w : ℕ). w) 0 0 l (λ (i : ℕ) a b (w : ℕ). refl)
 
 -- a word of a table that lies in memory
-pub table-word : (m : List ℕ) (base i v : ℕ) → i < mibPages → base + 4 * i + 4 ≤ length m → v ≡ numberAt Four m (base + 4 * i) → secondOf v i ≡ secondAt m base i
+pub table-word : (m : List ℕ) (t : Pointer) (i v : ℕ) → i < mibPages → t .base + 4 * i + 4 ≤ length m → v ≡ numberAt Four m (t .base + 4 * i) → secondOf v i (t .domain) ≡ secondAt m t i
 unfolding secondAt loadAt within
-table-word m base i v h q e =
+table-word m t i v h q e =
     let in-mib : i % mibPages ≡ i = omega (arith, h) in
-    rw (in-mib, le-leb (base + 4 * i + 4) (length m) q, e)
+    rw (in-mib, le-leb (t .base + 4 * i + 4) (length m) q, e)
 
 -- a page whose word of the table lies outside memory stays as it is
-outside-stays : (m : List ℕ) (base g i w : ℕ) → i < mibPages → length m < base + 4 * i + 4 → w ≡ noteTable m base g i w
+outside-stays : (m : List ℕ) (t : Pointer) (g i w : ℕ) → i < mibPages → length m < t .base + 4 * i + 4 → w ≡ noteTable m t g i w
 unfolding secondAt loadAt within
-outside-stays m base g i w h q =
+outside-stays m t g i w h q =
     let in-mib : i % mibPages ≡ i = omega (arith, h) in
-    rw (in-mib, lt-leb (base + 4 * i + 4) (length m) q)
+    rw (in-mib, lt-leb (t .base + 4 * i + 4) (length m) q)
 
 -- the pages of a table whose first n words lie in memory, and the next does not
-pub by-table : (m : List ℕ) (base g n : ℕ) (l row : List ℕ) → length l ≤ mibPages → (n < length l → length m < base + 4 * n + 4) → row ≡ mapFirst (noteTable m base g) 0 n l → row ≡ mapWords (noteTable m base g) l
-by-table m base g n l row k h e =
-    e ∙ rest-stays (noteTable m base g) 0 n l (λ (i : ℕ) a b (w : ℕ). outside-stays m base g i w (omega (arith, a, b, k)) (omega (arith, a, b, h (omega (arith, a, b)))))
+pub by-table : (m : List ℕ) (t : Pointer) (g n : ℕ) (l row : List ℕ) → length l ≤ mibPages → (n < length l → length m < t .base + 4 * n + 4) → row ≡ mapFirst (noteTable m t g) 0 n l → row ≡ mapWords (noteTable m t g) l
+by-table m t g n l row k h e =
+    e ∙ rest-stays (noteTable m t g) 0 n l (λ (i : ℕ) a b (w : ℕ). outside-stays m t g i w (omega (arith, a, b, k)) (omega (arith, a, b, h (omega (arith, a, b)))))

@@ -7,6 +7,7 @@ use lib.Dec.{eqb}
 use Rattle.model.specs.step.Rows.{mapWords}
 use Rattle.model.specs.step.Walk.{sectionEntry, descriptorAt, firstFrom, secondAt, walkFrom}
 use Rattle.model.specs.step.Track.{addOutcome}
+use Rattle.model.specs.declared.Pointer.{Pointer}
 use Rattle.model.specs.declared.Outcome.{Outcome}
 use Rattle.model.specs.declared.Outcome.the-variants.{Mapped}
 
@@ -20,9 +21,9 @@ mibPages = 256
 abbrev pub noteSection : ℕ → ℕ → ℕ → ℕ → ℕ
 noteSection x g i w = addOutcome g w (Mapped (sectionEntry x i))
 
--- a word after noting page i of the table at `base`
-abbrev pub noteTable : List ℕ → ℕ → ℕ → ℕ → ℕ → ℕ
-noteTable m base g i w = addOutcome g w (secondAt m base i)
+-- a word after noting page i of a table
+abbrev pub noteTable : List ℕ → Pointer → ℕ → ℕ → ℕ → ℕ
+noteTable m table g i w = addOutcome g w (secondAt m table i)
 
 -- a word after noting page i of the MiB whose level-one descriptor stands at `at`
 abbrev pub noteMib : List ℕ → ℕ → ℕ → ℕ → ℕ → ℕ

@@ -20,6 +20,7 @@ use memory::number;
 use model::FirstLevel;
 use model::Loaded;
 use model::Outcome;
+use model::Pointer;
 use model::Size;
 use track::add_entry;
 
@@ -78,17 +79,17 @@ fn words_inside(m: &[u8], base: usize, n: usize) -> usize
     n
 }
 
-// Notes the pages of a MiB by the table at `base`: word i is that of page i. A page whose descriptor lies outside memory stays
-// as it is.
-fn note_table(m: &[u8], base: usize, global: u32, mib: &mut [u32])
+// Notes the pages of a MiB by a table: word i is that of page i. A page whose descriptor lies outside memory stays as it is.
+fn note_table(m: &[u8], table: Pointer, global: u32, mib: &mut [u32])
     requires { ⌜ length (now mib) ≤ mibPages ⌝ }
-    ensures { λ _. ⌜ now (mib .exit) ≡ mapWords (noteTable (now (m .entry)) base global) (now (mib .entry)) ⌝ }
+    ensures { λ _. ⌜ now (mib .exit) ≡ mapWords (noteTable (now (m .entry)) table global) (now (mib .entry)) ⌝ }
 {
+    let base = table.base as usize;
     let n = words_inside(m, base, mib.len());
     let mut i = 0;
     while i < n {
         let w = mib[i];
-        mib[i] = add_outcome(global, w, second_of(word(m, base + 4 * i), i));
+        mib[i] = add_outcome(global, w, second_of(word(m, base + 4 * i), i, table.domain));
         i += 1;
     }
 }
@@ -102,7 +103,7 @@ fn note_mib(m: &[u8], at: usize, global: u32, mib: &mut [u32])
         match first_of(x, 0) {
             FirstLevel::Failing(_) => {}
             FirstLevel::Section(_) => note_section(x, global, mib),
-            FirstLevel::Table(base) => note_table(m, base as usize, global, mib),
+            FirstLevel::Table(table) => note_table(m, table, global, mib),
         }
     }
 }
@@ -185,16 +186,21 @@ fn changes_by_section(x: u32, own: &[u32], shared: &[u32]) -> u32
     count
 }
 
-// How many pages of a MiB noting by the table at `base` would change.
-fn changes_by_table(m: &[u8], base: usize, own: &[u32], shared: &[u32]) -> u32
+// How many pages of a MiB noting by a table would change.
+fn changes_by_table(m: &[u8], table: Pointer, own: &[u32], shared: &[u32]) -> u32
     requires { ⌜ (length (now own) ≤ mibPages) × (length (now shared) ≡ length (now own)) ⌝ }
-    ensures { λ r. ⌜ (r ≡ 0 → Both (noteTable (now (m .entry)) base) (now (own .entry)) (now (shared .entry))) ⌝ }
+    ensures { λ r. ⌜ (r ≡ 0 → Both (noteTable (now (m .entry)) table) (now (own .entry)) (now (shared .entry))) ⌝ }
 {
+    let base = table.base as usize;
     let n = words_inside(m, base, own.len());
     let mut count = 0;
     let mut i = 0;
     while i < n {
-        count += changes(own[i], shared[i], second_of(word(m, base + 4 * i), i));
+        count += changes(
+            own[i],
+            shared[i],
+            second_of(word(m, base + 4 * i), i, table.domain),
+        );
         i += 1;
     }
     count
@@ -209,7 +215,7 @@ fn changes_of_mib(m: &[u8], at: usize, own: &[u32], shared: &[u32]) -> u32
         return match first_of(x, 0) {
             FirstLevel::Failing(_) => 0,
             FirstLevel::Section(_) => changes_by_section(x, own, shared),
-            FirstLevel::Table(base) => changes_by_table(m, base as usize, own, shared),
+            FirstLevel::Table(table) => changes_by_table(m, table, own, shared),
         };
     }
     0

@@ -43,6 +43,13 @@ runs =
       quoted
           "line,op,answer,value\n2,write,ok,0\n3,ctx,ok,0\n4,read,refused,10\n5,addrctx,ok,0\n6,read,ok,402\n7,read,refused,10\n8,fetch,ok,402\n9,fetch,refused,10\na,fetch,fault,1\nb,fetch,refused,8\n",
     )
+    -- a domain closed, opened to everything and with permissions applied again; a field 2, in both modes, and `domain` in user mode
+    ∷ (
+      reportText 4096 globalSection (quoted
+          "op,a,b,c\nwrite,0,4,402\nall,0,0,0\ndomain,55555554,0,0\nread,0,4,0\ndomain,3,0,0\nmode,1,0,0\nfetch,0,0,0\ndomain,80000000,0,0\ndomain,1,0,0\nmode,0,0,0\ndomain,2,0,0\ndomain,1,0,0\nmode,1,0,0\nread,0,4,0\n"),
+      quoted
+          "line,op,answer,value\n2,write,ok,0\n3,all,ok,0\n4,domain,ok,0\n5,read,fault,9\n6,domain,ok,0\n7,mode,ok,0\n8,fetch,ok,402\n9,domain,refused,11\na,domain,refused,f\nb,mode,ok,0\nc,domain,refused,11\nd,domain,ok,0\ne,mode,ok,0\nf,read,fault,d\n",
+    )
     ∷ []
 
 -- Lists that are turned back.
@@ -70,12 +77,15 @@ refusals =
     ∷ turnedBack "Read,1000,4,0" "5"
     ∷ turnedBack ",0,0,0" "5"
     ∷ turnedBack "fetches,0,0,0" "5"
+    ∷ turnedBack "domains,0,0,0" "5"
     -- 6: an unused field, the first, the second or the third
     ∷ turnedBack "all,1,0,0" "6"
     ∷ turnedBack "root,80,1,0" "6"
     ∷ turnedBack "addrctx,1000,0,1" "6"
     ∷ turnedBack "fetch,1000,4,0" "6"
     ∷ turnedBack "fetch,1000,0,1" "6"
+    ∷ turnedBack "domain,1,1,0" "6"
+    ∷ turnedBack "domain,1,0,1" "6"
     ∷ []
 
 runs-hold : allSame runs ≡ true

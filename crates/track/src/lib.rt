@@ -15,7 +15,7 @@ const ROW: usize = 1024;
 pub fn is_entry(global: u32, w: u32) -> bool
     ensures { λ r. ⌜ r ≡ isEntry global w ⌝ }
 {
-    let low = w % 64;
+    let low = w % 4;
     if low == 2 {
         return w / 128 % 2 == global;
     }

@@ -15,6 +15,7 @@ use model::Fault;
 use model::FirstLevel;
 use model::Loaded;
 use model::Outcome;
+use model::Pointer;
 use model::Size;
 
 // The short-descriptor status code of a fault.
@@ -25,6 +26,8 @@ pub fn fault_number(f: Fault) -> u32
         Fault::Alignment => 1,
         Fault::FirstUnmapped => 5,
         Fault::SecondUnmapped => 7,
+        Fault::SectionDomain => 9,
+        Fault::PageDomain => 11, // 0xb
         Fault::SectionPermission => 13, // 0xd
         Fault::PagePermission => 15, // 0xf
         Fault::FirstOutside => 12, // 0xc
@@ -44,13 +47,13 @@ pub fn level_one(m: &[u8], root: u32, page: usize) -> FirstLevel
     }
 }
 
-// What the table at `base` says of a page.
-pub fn level_two(m: &[u8], base: u32, page: usize) -> Outcome
-    ensures { λ r. ⌜ r ≡ secondAt (now (m .entry)) base page ⌝ }
+// What a table says of a page.
+pub fn level_two(m: &[u8], table: Pointer, page: usize) -> Outcome
+    ensures { λ r. ⌜ r ≡ secondAt (now (m .entry)) table page ⌝ }
 {
-    let at = base as usize + 4 * (page % 256);
+    let at = table.base as usize + 4 * (page % 256);
     match load(m, at, Size::Four) {
-        Loaded::Value(w) => second_of(w, page),
+        Loaded::Value(w) => second_of(w, page, table.domain),
         Loaded::Outside => Outcome::Failed(Fault::SecondOutside),
     }
 }
@@ -62,7 +65,7 @@ pub fn walk(m: &[u8], root: u32, page: usize) -> Outcome
     match level_one(m, root, page) {
         FirstLevel::Failing(f) => Outcome::Failed(f),
         FirstLevel::Section(e) => Outcome::Mapped(e),
-        FirstLevel::Table(base) => level_two(m, base, page),
+        FirstLevel::Table(table) => level_two(m, table, page),
     }
 }
 
@@ -75,6 +78,7 @@ pub fn entry_word(e: Entry) -> u32
         + e.section % 2 * 256
         + e.global % 2 * 128
         + e.xn % 2 * 64
+        + e.domain % 16 * 4
         + 2
 }
 

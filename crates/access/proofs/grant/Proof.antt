@@ -1,16 +1,15 @@
 use mathlib.Core.Path.{sym, ap, _∙_}
-use borrow.Author.Tests.{not-true, not-false}
 use denote.Ref.{now}
-use Rattle.model.specs.declared.Access.the-variants.{Fails}
-use Rattle.access.proofs.Laws.{grant-failed, grant-physical, grant-outside, grant-denied}
+use Rattle.model.specs.declared.Outcome.{Outcome}
+use Rattle.model.specs.step.Machine.{granted}
 use borrow.Author.Needs.{needs}
 use Rattle.access.proofs.grant.Statement.{statement}
 use Rattle.access.proofs.grant.Tie as tie
 use Rattle.access.proofs.grant.Reads as reads
 use Rattle.access.proofs.grant.Lts as lts
-use Rattle.access.proofs.permitted.Reads as permitted-reads
-use Rattle.access.proofs.permission_fault.Reads as permission-fault-reads
-use Rattle.memory.proofs.inside.Reads as inside-reads
+use Rattle.access.proofs.field_of.Reads as field-of-reads
+use Rattle.access.proofs.reach.Reads as reach-reads
+use Rattle.access.proofs.rule.Reads as rule-reads
 
 enum-known-o : tie.Need-enum-known-o
 enum-known-o c = search needs
@@ -18,42 +17,22 @@ enum-known-o c = search needs
 enum-known-o-2 : tie.Need-enum-known-o-2
 enum-known-o-2 c = search needs
 
-cast-at : tie.Need-cast-at
-cast-at c = search needs
+field-of-requires : tie.Need-field-of-requires
+field-of-requires c κs = search needs
 
-mul-at : tie.Need-mul-at
-mul-at c = search needs
+rule-requires : tie.Need-rule-requires
+rule-requires c κs = search needs
 
-add-at : tie.Need-add-at
-add-at c = search needs
-
-permitted-requires : tie.Need-permitted-requires
-permitted-requires c κs = search needs
-
-permission-fault-requires : tie.Need-permission-fault-requires
-permission-fault-requires c κs = search needs
-
-inside-requires : tie.Need-inside-requires
-inside-requires c κs = search needs
+reach-requires : tie.Need-reach-requires
+reach-requires c κs = search needs
 
 returns : tie.Need-returns
-returns c = let f = c .before .before in let p = f .before in let k = p .before .before .before in let a = k .before .before .before .args in
-    ap Fails (f .permission-fault .ensures)
-    ∙ grant-denied (a .o) (a .mode) (a .purpose) (a .size) (a .a) (now (a .m)) _ (k .o2 .given .1) (sym (p .permitted .ensures) ∙ not-true _ (c .if1 .taken))
+returns c = let k = c .before in let a = k .before .before .before .args in
+    sym (ap (λ (z : Outcome). granted z (a .r) (a .purpose) (a .size) (a .a) (now (a .m))) (k .o .given .1))
 
 returns-2 : tie.Need-returns-2
-returns-2 c = let i = c .before .before in let p = i .before .before in let k = p .before .before .before in let a = k .before .before .before .args in
-    grant-outside (a .o) (a .mode) (a .purpose) (a .size) (a .a) (now (a .m)) _ (k .o2 .given .1) (sym (p .permitted .ensures) ∙ not-false _ (c .before .if1 .left))
-    (sym (i .inside .ensures) ∙ not-true _ (c .if2 .taken))
-
-returns-3 : tie.Need-returns-3
-returns-3 c = let k = c .before in let a = k .before .before .before .args in
-    grant-failed (a .o) (a .mode) (a .purpose) (a .size) (a .a) (now (a .m)) _ (k .o .given .1)
-
-returns-4 : tie.Need-returns-4
-returns-4 c = let i = c .before .before in let p = i .before .before in let k = p .before .before .before in let a = k .before .before .before .args in
-    grant-physical (a .o) (a .mode) (a .purpose) (a .size) (a .a) (now (a .m)) _ (k .o2 .given .1) (sym (p .permitted .ensures) ∙ not-false _ (c .before .if1 .left))
-    (sym (i .inside .ensures) ∙ not-false _ (c .if2 .left))
+returns-2 c = let f = c .before .before in let k = f .before .before in
+    c .reach .ensures ∙ rw (c .before .rule .ensures, f .field-of .ensures, k .o2 .given .1)
 
 pub grant-spec : {M : Type 1} → statement M
 grant-spec =
@@ -61,13 +40,8 @@ grant-spec =
     (tie.spec
     enum-known-o
     enum-known-o-2
-    cast-at
-    mul-at
-    add-at
-    permitted-requires
-    permission-fault-requires
-    inside-requires
+    field-of-requires
+    rule-requires
+    reach-requires
     returns
-    returns-2
-    returns-3
-    returns-4)
+    returns-2)

@@ -1,18 +1,17 @@
-use mathlib.Core.Path.{refl}
-use borrow.Author.Tests.{eq-eqb, ne-eqb}
 use Rattle.model.specs.step.Machine.{permissionFaultOf}
+use borrow.Author.Needs.{needs}
 use Rattle.access.proofs.permission_fault.Statement.{statement}
 use Rattle.access.proofs.permission_fault.Tie as tie
 use Rattle.access.proofs.permission_fault.Reads as reads
 use Rattle.access.proofs.permission_fault.Lts as lts
+use Rattle.access.proofs.by_level.Reads as by-level-reads
+
+by-level-requires : tie.Need-by-level-requires
+by-level-requires c κs = search needs
 
 returns : tie.Need-returns
 unfolding permissionFaultOf
-returns c = simp (eq-eqb (c .before .before .args .e .section) 1 (c .if1 .taken)) refl
-
-returns-2 : tie.Need-returns-2
-unfolding permissionFaultOf
-returns-2 c = simp (ne-eqb (c .before .before .args .e .section) 1 (c .if1 .left)) refl
+returns c = c .by-level .ensures
 
 pub permission-fault-spec : {M : Type 1} → statement M
-permission-fault-spec = tie.close (tie.spec returns returns-2)
+permission-fault-spec = tie.close (tie.spec by-level-requires returns)

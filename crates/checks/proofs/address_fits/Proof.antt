@@ -53,7 +53,7 @@ returns-5 c = let a = c .before .before .args in
 returns-6 : tie.Need-returns-6
 unfolding addressFits
 returns-6 c = let a = c .before .args in
-    others (2 ∷ 3 ∷ 4 ∷ 5 ∷ 7 ∷ []) (λ (k : Kind). true ≡ addressFits k (a .a)) (tt, (tt, (refl, (refl, (refl, (refl, (tt, (refl, (tt, tt))))))))) (a .kind) (c .match .keys6)
+    others (2 ∷ 3 ∷ 4 ∷ 5 ∷ 7 ∷ 10 ∷ []) (λ (k : Kind). true ≡ addressFits k (a .a)) (tt, (tt, (refl, (refl, (refl, (refl, (tt, (refl, (tt, (tt, refl)))))))))) (a .kind) (c .match .keys6)
 
 pub address-fits-spec : {M : Type 1} → statement M
 address-fits-spec =

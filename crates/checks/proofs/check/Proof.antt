@@ -12,6 +12,7 @@ use Rattle.limits.proofs.last_row.Reads as last-row-reads
 use Rattle.limits.proofs.lengths_fit.Reads as lengths-fit-reads
 use Rattle.checks.proofs.may_ask.Reads as may-ask-reads
 use Rattle.checks.proofs.mode_fits.Reads as mode-fits-reads
+use Rattle.checks.proofs.new_domains_fit.Reads as new-domains-fit-reads
 use Rattle.checks.proofs.new_root_fits.Reads as new-root-fits-reads
 use Rattle.limits.proofs.registers_fit.Reads as registers-fit-reads
 use Rattle.checks.proofs.size_fits.Reads as size-fits-reads
@@ -44,38 +45,43 @@ context-fits-requires c κs = search needs
 mode-fits-requires : tie.Need-mode-fits-requires
 mode-fits-requires c κs = search needs
 
+new-domains-fit-requires : tie.Need-new-domains-fit-requires
+new-domains-fit-requires c κs = search needs
+
 may-ask-requires : tie.Need-may-ask-requires
 may-ask-requires c κs = search needs
 
 returns : tie.Need-returns
 unfolding checks
-returns c = let f9 = c .before in let f8 = f9 .before in let f7 = f8 .before in let f6 = f7 .before in
-    let f5 = f6 .before in let f4 = f5 .before in let f3 = f4 .before in let f2 = f3 .before in
-    let k = f2 .before in let f1 = k .before in
+returns c = let f10 = c .before in let f9 = f10 .before in let f8 = f9 .before in let f7 = f8 .before in
+    let f6 = f7 .before in let f5 = f6 .before in let f4 = f5 .before in let f3 = f4 .before in
+    let f2 = f3 .before in let k = f2 .before in let f1 = k .before in
     failed _ _ (f1 .lengths-fit .ensures) (c .if1 .taken)
 
 returns-2 : tie.Need-returns-2
 unfolding checks
-returns-2 c = let i1 = c .before in let f9 = i1 .before in let f8 = f9 .before in let f7 = f8 .before in
-    let f6 = f7 .before in let f5 = f6 .before in let f4 = f5 .before in let f3 = f4 .before in
-    let f2 = f3 .before in let k = f2 .before in let f1 = k .before in
+returns-2 c = let i1 = c .before in let f10 = i1 .before in let f9 = f10 .before in let f8 = f9 .before in
+    let f7 = f8 .before in let f6 = f7 .before in let f5 = f6 .before in let f4 = f5 .before in
+    let f3 = f4 .before in let f2 = f3 .before in let k = f2 .before in let f1 = k .before in
     passed _ _ (f1 .lengths-fit .ensures) (i1 .if1 .left) (
     failed _ _ (f2 .registers-fit .ensures ∙ ap (registersFit _) (k .last-row .ensures)) (c .if2 .taken))
 
 returns-3 : tie.Need-returns-3
 unfolding checks
-returns-3 c = let i2 = c .before in let i1 = i2 .before in let f9 = i1 .before in let f8 = f9 .before in
-    let f7 = f8 .before in let f6 = f7 .before in let f5 = f6 .before in let f4 = f5 .before in
-    let f3 = f4 .before in let f2 = f3 .before in let k = f2 .before in let f1 = k .before in
+returns-3 c = let i2 = c .before in let i1 = i2 .before in let f10 = i1 .before in let f9 = f10 .before in
+    let f8 = f9 .before in let f7 = f8 .before in let f6 = f7 .before in let f5 = f6 .before in
+    let f4 = f5 .before in let f3 = f4 .before in let f2 = f3 .before in let k = f2 .before in
+    let f1 = k .before in
     passed _ _ (f1 .lengths-fit .ensures) (i1 .if1 .left) (
     passed _ _ (f2 .registers-fit .ensures ∙ ap (registersFit _) (k .last-row .ensures)) (i2 .if2 .left) (
     failed _ _ (f3 .size-fits .ensures) (c .if3 .taken)))
 
 returns-4 : tie.Need-returns-4
 unfolding checks
-returns-4 c = let i3 = c .before in let i2 = i3 .before in let i1 = i2 .before in let f9 = i1 .before in
-    let f8 = f9 .before in let f7 = f8 .before in let f6 = f7 .before in let f5 = f6 .before in
-    let f4 = f5 .before in let f3 = f4 .before in let f2 = f3 .before in let k = f2 .before in let f1 = k .before in
+returns-4 c = let i3 = c .before in let i2 = i3 .before in let i1 = i2 .before in let f10 = i1 .before in
+    let f9 = f10 .before in let f8 = f9 .before in let f7 = f8 .before in let f6 = f7 .before in
+    let f5 = f6 .before in let f4 = f5 .before in let f3 = f4 .before in let f2 = f3 .before in
+    let k = f2 .before in let f1 = k .before in
     passed _ _ (f1 .lengths-fit .ensures) (i1 .if1 .left) (
     passed _ _ (f2 .registers-fit .ensures ∙ ap (registersFit _) (k .last-row .ensures)) (i2 .if2 .left) (
     passed _ _ (f3 .size-fits .ensures) (i3 .if3 .left) (
@@ -84,9 +90,9 @@ returns-4 c = let i3 = c .before in let i2 = i3 .before in let i1 = i2 .before i
 returns-5 : tie.Need-returns-5
 unfolding checks
 returns-5 c = let i4 = c .before in let i3 = i4 .before in let i2 = i3 .before in let i1 = i2 .before in
-    let f9 = i1 .before in let f8 = f9 .before in let f7 = f8 .before in let f6 = f7 .before in
-    let f5 = f6 .before in let f4 = f5 .before in let f3 = f4 .before in let f2 = f3 .before in
-    let k = f2 .before in let f1 = k .before in
+    let f10 = i1 .before in let f9 = f10 .before in let f8 = f9 .before in let f7 = f8 .before in
+    let f6 = f7 .before in let f5 = f6 .before in let f4 = f5 .before in let f3 = f4 .before in
+    let f2 = f3 .before in let k = f2 .before in let f1 = k .before in
     passed _ _ (f1 .lengths-fit .ensures) (i1 .if1 .left) (
     passed _ _ (f2 .registers-fit .ensures ∙ ap (registersFit _) (k .last-row .ensures)) (i2 .if2 .left) (
     passed _ _ (f3 .size-fits .ensures) (i3 .if3 .left) (
@@ -96,9 +102,9 @@ returns-5 c = let i4 = c .before in let i3 = i4 .before in let i2 = i3 .before i
 returns-6 : tie.Need-returns-6
 unfolding checks
 returns-6 c = let i5 = c .before in let i4 = i5 .before in let i3 = i4 .before in let i2 = i3 .before in
-    let i1 = i2 .before in let f9 = i1 .before in let f8 = f9 .before in let f7 = f8 .before in
-    let f6 = f7 .before in let f5 = f6 .before in let f4 = f5 .before in let f3 = f4 .before in
-    let f2 = f3 .before in let k = f2 .before in let f1 = k .before in
+    let i1 = i2 .before in let f10 = i1 .before in let f9 = f10 .before in let f8 = f9 .before in
+    let f7 = f8 .before in let f6 = f7 .before in let f5 = f6 .before in let f4 = f5 .before in
+    let f3 = f4 .before in let f2 = f3 .before in let k = f2 .before in let f1 = k .before in
     passed _ _ (f1 .lengths-fit .ensures) (i1 .if1 .left) (
     passed _ _ (f2 .registers-fit .ensures ∙ ap (registersFit _) (k .last-row .ensures)) (i2 .if2 .left) (
     passed _ _ (f3 .size-fits .ensures) (i3 .if3 .left) (
@@ -109,9 +115,10 @@ returns-6 c = let i5 = c .before in let i4 = i5 .before in let i3 = i4 .before i
 returns-7 : tie.Need-returns-7
 unfolding checks
 returns-7 c = let i6 = c .before in let i5 = i6 .before in let i4 = i5 .before in let i3 = i4 .before in
-    let i2 = i3 .before in let i1 = i2 .before in let f9 = i1 .before in let f8 = f9 .before in
-    let f7 = f8 .before in let f6 = f7 .before in let f5 = f6 .before in let f4 = f5 .before in
-    let f3 = f4 .before in let f2 = f3 .before in let k = f2 .before in let f1 = k .before in
+    let i2 = i3 .before in let i1 = i2 .before in let f10 = i1 .before in let f9 = f10 .before in
+    let f8 = f9 .before in let f7 = f8 .before in let f6 = f7 .before in let f5 = f6 .before in
+    let f4 = f5 .before in let f3 = f4 .before in let f2 = f3 .before in let k = f2 .before in
+    let f1 = k .before in
     passed _ _ (f1 .lengths-fit .ensures) (i1 .if1 .left) (
     passed _ _ (f2 .registers-fit .ensures ∙ ap (registersFit _) (k .last-row .ensures)) (i2 .if2 .left) (
     passed _ _ (f3 .size-fits .ensures) (i3 .if3 .left) (
@@ -123,9 +130,10 @@ returns-7 c = let i6 = c .before in let i5 = i6 .before in let i4 = i5 .before i
 returns-8 : tie.Need-returns-8
 unfolding checks
 returns-8 c = let i7 = c .before in let i6 = i7 .before in let i5 = i6 .before in let i4 = i5 .before in
-    let i3 = i4 .before in let i2 = i3 .before in let i1 = i2 .before in let f9 = i1 .before in
-    let f8 = f9 .before in let f7 = f8 .before in let f6 = f7 .before in let f5 = f6 .before in
-    let f4 = f5 .before in let f3 = f4 .before in let f2 = f3 .before in let k = f2 .before in let f1 = k .before in
+    let i3 = i4 .before in let i2 = i3 .before in let i1 = i2 .before in let f10 = i1 .before in
+    let f9 = f10 .before in let f8 = f9 .before in let f7 = f8 .before in let f6 = f7 .before in
+    let f5 = f6 .before in let f4 = f5 .before in let f3 = f4 .before in let f2 = f3 .before in
+    let k = f2 .before in let f1 = k .before in
     passed _ _ (f1 .lengths-fit .ensures) (i1 .if1 .left) (
     passed _ _ (f2 .registers-fit .ensures ∙ ap (registersFit _) (k .last-row .ensures)) (i2 .if2 .left) (
     passed _ _ (f3 .size-fits .ensures) (i3 .if3 .left) (
@@ -139,9 +147,9 @@ returns-9 : tie.Need-returns-9
 unfolding checks
 returns-9 c = let i8 = c .before in let i7 = i8 .before in let i6 = i7 .before in let i5 = i6 .before in
     let i4 = i5 .before in let i3 = i4 .before in let i2 = i3 .before in let i1 = i2 .before in
-    let f9 = i1 .before in let f8 = f9 .before in let f7 = f8 .before in let f6 = f7 .before in
-    let f5 = f6 .before in let f4 = f5 .before in let f3 = f4 .before in let f2 = f3 .before in
-    let k = f2 .before in let f1 = k .before in
+    let f10 = i1 .before in let f9 = f10 .before in let f8 = f9 .before in let f7 = f8 .before in
+    let f6 = f7 .before in let f5 = f6 .before in let f4 = f5 .before in let f3 = f4 .before in
+    let f2 = f3 .before in let k = f2 .before in let f1 = k .before in
     passed _ _ (f1 .lengths-fit .ensures) (i1 .if1 .left) (
     passed _ _ (f2 .registers-fit .ensures ∙ ap (registersFit _) (k .last-row .ensures)) (i2 .if2 .left) (
     passed _ _ (f3 .size-fits .ensures) (i3 .if3 .left) (
@@ -150,15 +158,15 @@ returns-9 c = let i8 = c .before in let i7 = i8 .before in let i6 = i7 .before i
     passed _ _ (f6 .new-root-fits .ensures) (i6 .if6 .left) (
     passed _ _ (f7 .context-fits .ensures ∙ ap (contextFits _ _ _) (k .last-row .ensures)) (i7 .if7 .left) (
     passed _ _ (f8 .mode-fits .ensures) (i8 .if8 .left) (
-    failed _ _ (f9 .may-ask .ensures) (c .if9 .taken)))))))))
+    failed _ _ (f9 .new-domains-fit .ensures) (c .if9 .taken)))))))))
 
 returns-10 : tie.Need-returns-10
 unfolding checks
-returns-10 c = let i8 = c .before in let i7 = i8 .before in let i6 = i7 .before in let i5 = i6 .before in
-    let i4 = i5 .before in let i3 = i4 .before in let i2 = i3 .before in let i1 = i2 .before in
-    let f9 = i1 .before in let f8 = f9 .before in let f7 = f8 .before in let f6 = f7 .before in
-    let f5 = f6 .before in let f4 = f5 .before in let f3 = f4 .before in let f2 = f3 .before in
-    let k = f2 .before in let f1 = k .before in
+returns-10 c = let i9 = c .before in let i8 = i9 .before in let i7 = i8 .before in let i6 = i7 .before in
+    let i5 = i6 .before in let i4 = i5 .before in let i3 = i4 .before in let i2 = i3 .before in
+    let i1 = i2 .before in let f10 = i1 .before in let f9 = f10 .before in let f8 = f9 .before in
+    let f7 = f8 .before in let f6 = f7 .before in let f5 = f6 .before in let f4 = f5 .before in
+    let f3 = f4 .before in let f2 = f3 .before in let k = f2 .before in let f1 = k .before in
     passed _ _ (f1 .lengths-fit .ensures) (i1 .if1 .left) (
     passed _ _ (f2 .registers-fit .ensures ∙ ap (registersFit _) (k .last-row .ensures)) (i2 .if2 .left) (
     passed _ _ (f3 .size-fits .ensures) (i3 .if3 .left) (
@@ -167,8 +175,27 @@ returns-10 c = let i8 = c .before in let i7 = i8 .before in let i6 = i7 .before 
     passed _ _ (f6 .new-root-fits .ensures) (i6 .if6 .left) (
     passed _ _ (f7 .context-fits .ensures ∙ ap (contextFits _ _ _) (k .last-row .ensures)) (i7 .if7 .left) (
     passed _ _ (f8 .mode-fits .ensures) (i8 .if8 .left) (
-    passed _ _ (f9 .may-ask .ensures) (c .if9 .left) (
-    none-left)))))))))
+    passed _ _ (f9 .new-domains-fit .ensures) (i9 .if9 .left) (
+    failed _ _ (f10 .may-ask .ensures) (c .if10 .taken))))))))))
+
+returns-11 : tie.Need-returns-11
+unfolding checks
+returns-11 c = let i9 = c .before in let i8 = i9 .before in let i7 = i8 .before in let i6 = i7 .before in
+    let i5 = i6 .before in let i4 = i5 .before in let i3 = i4 .before in let i2 = i3 .before in
+    let i1 = i2 .before in let f10 = i1 .before in let f9 = f10 .before in let f8 = f9 .before in
+    let f7 = f8 .before in let f6 = f7 .before in let f5 = f6 .before in let f4 = f5 .before in
+    let f3 = f4 .before in let f2 = f3 .before in let k = f2 .before in let f1 = k .before in
+    passed _ _ (f1 .lengths-fit .ensures) (i1 .if1 .left) (
+    passed _ _ (f2 .registers-fit .ensures ∙ ap (registersFit _) (k .last-row .ensures)) (i2 .if2 .left) (
+    passed _ _ (f3 .size-fits .ensures) (i3 .if3 .left) (
+    passed _ _ (f4 .address-fits .ensures) (i4 .if4 .left) (
+    passed _ _ (f5 .value-fits .ensures) (i5 .if5 .left) (
+    passed _ _ (f6 .new-root-fits .ensures) (i6 .if6 .left) (
+    passed _ _ (f7 .context-fits .ensures ∙ ap (contextFits _ _ _) (k .last-row .ensures)) (i7 .if7 .left) (
+    passed _ _ (f8 .mode-fits .ensures) (i8 .if8 .left) (
+    passed _ _ (f9 .new-domains-fit .ensures) (i9 .if9 .left) (
+    passed _ _ (f10 .may-ask .ensures) (c .if10 .left) (
+    none-left))))))))))
 
 pub check-spec : {M : Type 1} → statement M
 check-spec =
@@ -183,6 +210,7 @@ check-spec =
     new-root-fits-requires
     context-fits-requires
     mode-fits-requires
+    new-domains-fit-requires
     may-ask-requires
     returns
     returns-2
@@ -193,4 +221,5 @@ check-spec =
     returns-7
     returns-8
     returns-9
-    returns-10)
+    returns-10
+    returns-11)

@@ -37,7 +37,7 @@ returns-3 c = let a = c .before .before .args in
 returns-4 : tie.Need-returns-4
 unfolding contextFits
 returns-4 c = let a = c .before .args in
-    others (0 ∷ 1 ∷ 2 ∷ 4 ∷ 5 ∷ 6 ∷ 9 ∷ []) (λ (k : Kind). true ≡ contextFits k (a .a) (a .b) (a .k)) (refl, (refl, (refl, (tt, (refl, (refl, (refl, (tt, (tt, refl))))))))) (a .kind) (c .match .keys4)
+    others (0 ∷ 1 ∷ 2 ∷ 4 ∷ 5 ∷ 6 ∷ 9 ∷ 10 ∷ []) (λ (k : Kind). true ≡ contextFits k (a .a) (a .b) (a .k)) (refl, (refl, (refl, (tt, (refl, (refl, (refl, (tt, (tt, (refl, refl)))))))))) (a .kind) (c .match .keys4)
 
 pub context-fits-spec : {M : Type 1} → statement M
 context-fits-spec =

@@ -45,7 +45,7 @@ returns-4 c = let a = c .before .before .args in
 returns-5 : tie.Need-returns-5
 unfolding mayAsk
 returns-5 c = let a = c .before .args in
-    others (2 ∷ 3 ∷ 5 ∷ 6 ∷ 7 ∷ 8 ∷ []) (λ (k : Kind). eqb (a .mode) 0 ≡ mayAsk k (a .mode)) (tt, (tt, (refl, (refl, (tt, (refl, (refl, (refl, (refl, tt))))))))) (a .kind) (c .match .keys5)
+    others (2 ∷ 3 ∷ 5 ∷ 6 ∷ 7 ∷ 8 ∷ 10 ∷ []) (λ (k : Kind). eqb (a .mode) 0 ≡ mayAsk k (a .mode)) (tt, (tt, (refl, (refl, (tt, (refl, (refl, (refl, (refl, (tt, refl)))))))))) (a .kind) (c .match .keys5)
 
 pub may-ask-spec : {M : Type 1} → statement M
 may-ask-spec =

@@ -21,7 +21,7 @@ returns c = let a = c .before .before .args in
 returns-2 : tie.Need-returns-2
 unfolding modeFits
 returns-2 c = let a = c .before .args in
-    others (0 ∷ 1 ∷ 2 ∷ 3 ∷ 5 ∷ 6 ∷ 7 ∷ 8 ∷ 9 ∷ []) (λ (k : Kind). true ≡ modeFits k (a .a)) (refl, (refl, (refl, (refl, (tt, (refl, (refl, (refl, (refl, refl))))))))) (a .kind) (c .match .keys2)
+    others (0 ∷ 1 ∷ 2 ∷ 3 ∷ 5 ∷ 6 ∷ 7 ∷ 8 ∷ 9 ∷ 10 ∷ []) (λ (k : Kind). true ≡ modeFits k (a .a)) (refl, (refl, (refl, (refl, (tt, (refl, (refl, (refl, (refl, (refl, refl)))))))))) (a .kind) (c .match .keys2)
 
 pub mode-fits-spec : {M : Type 1} → statement M
 mode-fits-spec = tie.close (tie.spec enum-told returns returns-2)

@@ -25,7 +25,7 @@ returns c = let a = c .before .before .before .args in
 returns-2 : tie.Need-returns-2
 unfolding newRootFits
 returns-2 c = let a = c .before .args in
-    others (0 ∷ 1 ∷ 3 ∷ 4 ∷ 5 ∷ 6 ∷ 7 ∷ 8 ∷ 9 ∷ []) (λ (k : Kind). true ≡ newRootFits k (a .a)) (refl, (refl, (tt, (refl, (refl, (refl, (refl, (refl, (refl, refl))))))))) (a .kind) (c .match .keys2)
+    others (0 ∷ 1 ∷ 3 ∷ 4 ∷ 5 ∷ 6 ∷ 7 ∷ 8 ∷ 9 ∷ 10 ∷ []) (λ (k : Kind). true ≡ newRootFits k (a .a)) (refl, (refl, (tt, (refl, (refl, (refl, (refl, (refl, (refl, (refl, refl)))))))))) (a .kind) (c .match .keys2)
 
 pub new-root-fits-spec : {M : Type 1} → statement M
 new-root-fits-spec = tie.close (tie.spec enum-told root-fits-requires returns returns-2)

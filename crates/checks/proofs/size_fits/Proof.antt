@@ -36,7 +36,7 @@ returns-2 c = let a = c .before .before .before .args in
 returns-3 : tie.Need-returns-3
 unfolding sizeFits
 returns-3 c = let a = c .before .args in
-    others (2 ∷ 3 ∷ 4 ∷ 5 ∷ 6 ∷ 7 ∷ 8 ∷ 9 ∷ []) (λ (k : Kind). true ≡ sizeFits k (a .b)) (tt, (tt, (refl, (refl, (refl, (refl, (refl, (refl, (refl, refl))))))))) (a .kind) (c .match .keys3)
+    others (2 ∷ 3 ∷ 4 ∷ 5 ∷ 6 ∷ 7 ∷ 8 ∷ 9 ∷ 10 ∷ []) (λ (k : Kind). true ≡ sizeFits k (a .b)) (tt, (tt, (refl, (refl, (refl, (refl, (refl, (refl, (refl, (refl, refl)))))))))) (a .kind) (c .match .keys3)
 
 pub size-fits-spec : {M : Type 1} → statement M
 size-fits-spec =

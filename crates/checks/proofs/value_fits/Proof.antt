@@ -25,7 +25,7 @@ returns c = let a = c .before .before .before .args in
 returns-2 : tie.Need-returns-2
 unfolding valueFits
 returns-2 c = let a = c .before .args in
-    others (0 ∷ 2 ∷ 3 ∷ 4 ∷ 5 ∷ 6 ∷ 7 ∷ 8 ∷ 9 ∷ []) (λ (k : Kind). true ≡ valueFits k (a .b) (a .c)) (refl, (tt, (refl, (refl, (refl, (refl, (refl, (refl, (refl, refl))))))))) (a .kind) (c .match .keys2)
+    others (0 ∷ 2 ∷ 3 ∷ 4 ∷ 5 ∷ 6 ∷ 7 ∷ 8 ∷ 9 ∷ 10 ∷ []) (λ (k : Kind). true ≡ valueFits k (a .b) (a .c)) (refl, (tt, (refl, (refl, (refl, (refl, (refl, (refl, (refl, (refl, refl)))))))))) (a .kind) (c .match .keys2)
 
 pub value-fits-spec : {M : Type 1} → statement M
 value-fits-spec = tie.close (tie.spec enum-told fits-size-requires returns returns-2)

@@ -7,14 +7,18 @@ use Rattle.descriptor.proofs.first_of.Statement.{statement}
 use Rattle.descriptor.proofs.first_of.Tie as tie
 use Rattle.descriptor.proofs.first_of.Reads as reads
 use Rattle.descriptor.proofs.first_of.Lts as lts
+use Rattle.descriptor.proofs.domain_of.Reads as domain-of-reads
 use Rattle.descriptor.proofs.section_entry.Reads as section-entry-reads
 
 mul-t8 : tie.Need-mul-t8
 mul-t8 c = search needs
 
+domain-of-requires : tie.Need-domain-of-requires
+domain-of-requires c κs = search needs
+
 returns : tie.Need-returns
 unfolding firstOf
-returns c = simp (eq-eqb _ _ (c .if1 .taken))
+returns c = simp (eq-eqb _ _ (c .before .if1 .taken)) (rw (c .domain-of .ensures))
 
 section-entry-requires : tie.Need-section-entry-requires
 section-entry-requires c κs = search needs
@@ -33,4 +37,4 @@ returns-4 c = simp (ne-eqb _ _ (c .before .if1 .left), ne-eqb _ _ (c .if2 .left)
 
 pub first-of-spec : {M : Type 1} → statement M
 first-of-spec =
-    tie.close (tie.spec mul-t8 returns section-entry-requires returns-2 returns-3 returns-4)
+    tie.close (tie.spec mul-t8 domain-of-requires returns section-entry-requires returns-2 returns-3 returns-4)

@@ -5,26 +5,26 @@ use Rattle.descriptor.proofs.large_entry.Tie as tie
 use Rattle.descriptor.proofs.large_entry.Reads as reads
 use Rattle.descriptor.proofs.large_entry.Lts as lts
 
-mul-t5 : tie.Need-mul-t5
-mul-t5 c = search needs
+mul-t6 : tie.Need-mul-t6
+mul-t6 c = search needs
 
-cast-t7 : tie.Need-cast-t7
-cast-t7 c = search needs
+cast-t8 : tie.Need-cast-t8
+cast-t8 c = search needs
 
-add-t8 : tie.Need-add-t8
-add-t8 c = search needs
+add-t9 : tie.Need-add-t9
+add-t9 c = search needs
 
-mul-t11 : tie.Need-mul-t11
-mul-t11 c = search needs
+mul-t12 : tie.Need-mul-t12
+mul-t12 c = search needs
 
-add-t14 : tie.Need-add-t14
-add-t14 c = search needs
+add-t15 : tie.Need-add-t15
+add-t15 c = search needs
 
-sub-t17 : tie.Need-sub-t17
-sub-t17 c = search needs
+sub-t18 : tie.Need-sub-t18
+sub-t18 c = search needs
 
 returns : tie.Need-returns
 returns c = refl
 
 pub large-entry-spec : {M : Type 1} → statement M
-large-entry-spec = tie.close (tie.spec mul-t5 cast-t7 add-t8 mul-t11 add-t14 sub-t17 returns)
+large-entry-spec = tie.close (tie.spec mul-t6 cast-t8 add-t9 mul-t12 add-t15 sub-t18 returns)

@@ -15,7 +15,7 @@ word-requires c κs = search needs
 
 returns : tie.Need-returns
 unfolding areWords
-returns c = simp (eq-eqb _ _ (c .before .before .if1 .taken), eq-eqb _ _ (c .before .if2 .taken)) (ap (λ (n : ℕ). ltb n 10) (c .word .ensures))
+returns c = simp (eq-eqb _ _ (c .before .before .if1 .taken), eq-eqb _ _ (c .before .if2 .taken)) (ap (λ (n : ℕ). ltb n 11) (c .word .ensures))
 
 returns-2 : tie.Need-returns-2
 unfolding areWords

@@ -1,6 +1,6 @@
 use mathlib.Core.Path.{sym, _∙_}
 use denote.Ref.{now}
-use Rattle.ffi.proofs.Laws.{step-left, step-not, three, start-left, start-not}
+use Rattle.ffi.proofs.Laws.{step-left, step-not, four, start-left, start-not}
 use borrow.Author.Needs.{needs}
 use Rattle.ffi.proofs.machine_start.Statement.{statement}
 use Rattle.ffi.proofs.machine_start.Tie as tie

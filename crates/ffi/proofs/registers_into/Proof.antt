@@ -15,6 +15,9 @@ slice-write-r-2 c = search needs
 slice-write-r-3 : tie.Need-slice-write-r-3
 slice-write-r-3 c = search needs
 
+slice-write-r-4 : tie.Need-slice-write-r-4
+slice-write-r-4 c = search needs
+
 same-length : tie.Need-same-length
 same-length c = search needs
 
@@ -24,4 +27,4 @@ returns c = refl
 
 pub registers-into-spec : {M : Type 1} → statement M
 registers-into-spec =
-    tie.close (tie.spec slice-write-r slice-write-r-2 slice-write-r-3 same-length returns)
+    tie.close (tie.spec slice-write-r slice-write-r-2 slice-write-r-3 slice-write-r-4 same-length returns)

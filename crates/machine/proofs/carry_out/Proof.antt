@@ -19,6 +19,7 @@ use Rattle.transfer.proofs.fetch.Reads as fetch-reads
 use Rattle.transfer.proofs.read.Reads as read-reads
 use Rattle.access.proofs.size_of.Reads as size-of-reads
 use Rattle.machine.proofs.with_context.Reads as with-context-reads
+use Rattle.machine.proofs.with_domains.Reads as with-domains-reads
 use Rattle.machine.proofs.with_mode.Reads as with-mode-reads
 use Rattle.machine.proofs.with_root.Reads as with-root-reads
 use Rattle.transfer.proofs.write.Reads as write-reads
@@ -125,6 +126,15 @@ enum-told-10 c = search needs
 
 fetch-requires : tie.Need-fetch-requires
 fetch-requires c κs = search needs
+
+enum-told-11 : tie.Need-enum-told-11
+enum-told-11 c = search needs
+
+with-domains-requires : tie.Need-with-domains-requires
+with-domains-requires c κs = search needs
+
+carry-requires-5 : tie.Need-carry-requires-5
+carry-requires-5 c κs = search needs
 
 same-length : tie.Need-same-length
 same-length c = search needs
@@ -236,6 +246,17 @@ unfolding operate
 returns-10 c = let k = c .before .before in let e = k .before .before .before in let a = e .before .before .before .before .args in
     regive _ _ _ _ _ (sym (ap (λ (w : Kind). operate w (a .o) (a .r) (now (a .m)) (now (a .t))) (e .enum-told10 .given .1))) (k .fetch .ensures)
 
+same-length-21 : tie.Need-same-length-21
+same-length-21 c = search needs
+
+same-length-22 : tie.Need-same-length-22
+same-length-22 c = search needs
+
+returns-11 : tie.Need-returns-11
+unfolding operate
+returns-11 c = let k = c .before .before in let z = k .before .before .before in let e = z .before in let a = e .before .before .before .before .args in
+    regive _ _ _ _ _ (ap (λ (x : Registers). carried (Done 0) x (now (a .m)) (now (a .t))) (z .with-domains .ensures) ∙ sym (ap (λ (w : Kind). operate w (a .o) (a .r) (now (a .m)) (now (a .t))) (e .enum-told11 .given .1))) (k .carry5 .ensures)
+
 pub carry-out-spec : {M : Type 1} → statement M
 carry-out-spec =
     tie.close
@@ -273,6 +294,9 @@ carry-out-spec =
     carry-flushed-requires-3
     enum-told-10
     fetch-requires
+    enum-told-11
+    with-domains-requires
+    carry-requires-5
     same-length
     same-length-2
     returns
@@ -302,4 +326,7 @@ carry-out-spec =
     returns-9
     same-length-19
     same-length-20
-    returns-10)
+    returns-10
+    same-length-21
+    same-length-22
+    returns-11)

@@ -10,7 +10,7 @@ use lib.Dec.{eqb, leb, ltb}
 use lib.ListN.{length, getD, set}
 use Rattle.model.specs.Limits.{pageSize, sectionSize, addressLimit, rowSize, rootAlignment, memoryUnit, memoryMost, contextsMost}
 use Rattle.model.specs.Numbers.{Result, ok, fault, kindNumber}
-use Rattle.model.specs.Types.{Registers, Operation, Kind, Read, Write, Root, Asid, Mode, All, Addr, Ctx, AddrCtx, Fetch, Entry, Purpose, ToRead, ToWrite, ToFetch}
+use Rattle.model.specs.Types.{Registers, Operation, Kind, Read, Write, Root, Asid, Mode, All, Addr, Ctx, AddrCtx, Fetch, Domain, Entry, Purpose, ToRead, ToWrite, ToFetch, Ruling, Allowed, PermissionDenied, DomainDenied}
 
 -- ── Reading a map ──
 -- whether n bytes from `at` lie wholly in memory
@@ -39,6 +39,10 @@ descriptor m at n f = cond (inMemory m at 4) (f (value m at 4)) (failed n)
 unfoldable pub globalBy : ℕ → ℕ
 globalBy nG = cond (eqb nG 0) 1 0
 
+-- The domain of a level-one word, bits 8..5: that of a section, and of the pages of the table that it points to.
+unfoldable pub domainOf : ℕ → ℕ
+domainOf w = bits 8 5 w
+
 -- Section: base bits 31..20, AP[2] bit 15, AP[1:0] bits 11..10, nG bit 17, XN bit 4; the missing frame bits come from the address.
 -- An entry records whether it came from a section: 1 here, 0 for pages.
 unfoldable pub section : ℕ → ℕ → Entry
@@ -48,37 +52,40 @@ section a w = record {
   section = 1;
   global = globalBy (bits 17 17 w);
   xn = bits 4 4 w;
+  domain = domainOf w;
 }
 
 -- Large page: base bits 31..16, XN bit 15. Small page: base bits 31..12, XN bit 0. For both, AP[2] is bit 9, AP[1:0] bits 5..4 and nG
--- bit 11.
-unfoldable pub largePage : ℕ → ℕ → Entry
-largePage a w = record {
+-- bit 11; the domain d is that of the level-one word.
+unfoldable pub largePage : ℕ → ℕ → ℕ → Entry
+largePage a d w = record {
   frame = bits 31 16 w * 16 + a / pageSize % 16;
   ap = bits 9 9 w * 4 + bits 5 4 w;
   section = 0;
   global = globalBy (bits 11 11 w);
   xn = bits 15 15 w;
+  domain = d;
 }
 
-unfoldable pub smallPage : ℕ → Entry
-smallPage w = record {
+unfoldable pub smallPage : ℕ → ℕ → Entry
+smallPage d w = record {
   frame = bits 31 12 w;
   ap = bits 9 9 w * 4 + bits 5 4 w;
   section = 0;
   global = globalBy (bits 11 11 w);
   xn = bits 0 0 w;
+  domain = d;
 }
 
 -- Level two. Low two bits 0: no mapping, fault 7. 1: large page. 2 or 3: small page.
-unfoldable pub pageWord : ℕ → ℕ → Translation
-pageWord a w = cond (eqb (bits 1 0 w) 0) (failed 0x7) (cond (eqb (bits 1 0 w) 1) (found (largePage a w)) (found (smallPage w)))
+unfoldable pub pageWord : ℕ → ℕ → ℕ → Translation
+pageWord a d w = cond (eqb (bits 1 0 w) 0) (failed 0x7) (cond (eqb (bits 1 0 w) 1) (found (largePage a d w)) (found (smallPage d w)))
 
 -- Level one. Low two bits 0 or 3: no mapping, fault 5. 1: table at bits 31..10, and the level-two word at table base + 4 ×
 -- (address / 4,096 % 256); fault 0xe where that word is not in memory. 2 with bit 18 clear: section; set: no mapping.
 unfoldable pub tableWord : List ℕ → ℕ → ℕ → Translation
 tableWord m a w =
-    cond (eqb (bits 1 0 w) 1) (descriptor m (bits 31 10 w * 1024 + 4 * (a / pageSize % 256)) 0xe (pageWord a))
+    cond (eqb (bits 1 0 w) 1) (descriptor m (bits 31 10 w * 1024 + 4 * (a / pageSize % 256)) 0xe (pageWord a (domainOf w)))
     (cond (eqb (bits 1 0 w) 2 && eqb (bits 18 18 w) 0) (found (section a w)) (failed 0x5))
 
 -- the walk of an address, in memory m from this root; fault 0xc where the level-one word is not in memory
@@ -119,6 +126,16 @@ permits ToRead right xn = mayRead right
 permits ToWrite right xn = mayWrite right
 permits ToFetch right xn = mayRead right && eqb xn 0
 
+-- the field of domain d in the domain register, which has sixteen fields of two bits
+unfoldable pub fieldOf : ℕ → ℕ → ℕ
+fieldOf domains d = bits (2 * d + 1) (2 * d) domains
+
+-- What the field of its domain says of an access, in a mode, through an entry with this AP and XN: 0 denies it, whatever AP and XN say; 1
+-- applies permissions and XN; 3 skips both. 2, which no register of an accepted operation has, answers as 0.
+unfoldable pub ruling : ℕ → ℕ → Purpose → ℕ → ℕ → Ruling
+ruling ap mode x field xn =
+    cond (eqb field 1) (cond (permits x (rightOf ap mode) xn) Allowed PermissionDenied) (cond (eqb field 3) Allowed DomainDenied)
+
 -- ── The operations, and the plain machine: no TLB and no track ──
 -- whether an operation's kind is one of these
 unfoldable pub among : Kind → List Kind → Bool
@@ -138,9 +155,9 @@ pub record State : Type 0 where
   pub memory : List ℕ
   pub registers : Registers
 
--- at first: the image, the given root, context 0, kernel mode
+-- at first: the image, the given root, context 0, kernel mode, each field of the domain register 1
 unfoldable pub fresh : List ℕ → ℕ → State
-fresh image root = record { memory = image; registers = record { root = root; context = 0; mode = 0 } }
+fresh image root = record { memory = image; registers = record { root = root; context = 0; mode = 0; domains = 0x55555555 } }
 
 -- memory with the low n bytes of v written from `at`, low byte first
 unfoldable pub stored : List ℕ → ℕ → ℕ → ℕ → List ℕ
@@ -160,33 +177,43 @@ touched ToFetch at size v s = (ok (value (s .memory) at size), s)
 unfoldable pub permissionFault : Entry → ℕ
 permissionFault e = cond (eqb (e .section) 1) 0xd 0xf
 
--- An address with its translation: a fault of the walk; permission; fault 8, bytes not in memory; the bytes.
+-- a closed domain, by the entry used: fault 9 where it came from a section, 0xb where it came from a page
+unfoldable pub domainFault : Entry → ℕ
+domainFault e = cond (eqb (e .section) 1) 0x9 0xb
+
+-- An access through an entry: domain or permission; fault 8, bytes not in memory; the bytes.
+unfoldable pub ruled : Ruling → Purpose → ℕ → ℕ → ℕ → State → Entry → Result × State
+ruled DomainDenied x a size v s e = (fault (domainFault e), s)
+ruled PermissionDenied x a size v s e = (fault (permissionFault e), s)
+ruled Allowed x a size v s e = cond (inMemory (s .memory) (physical e a) size) (touched x (physical e a) size v s) (fault 0x8, s)
+
+-- An address with its translation: a fault of the walk, else the entry, with the mode and the domain register of now.
 unfoldable pub translated : Purpose → ℕ → ℕ → ℕ → State → Translation → Result × State
 translated x a size v s (failed n) = (fault n, s)
 translated x a size v s (found e) =
-    cond (permits x (rightOf (e .ap) (s .registers .mode)) (e .xn))
-    (cond (inMemory (s .memory) (physical e a) size) (touched x (physical e a) size v s) (fault 0x8, s))
-    (fault (permissionFault e), s)
+    ruled (ruling (e .ap) (s .registers .mode) x (fieldOf (s .registers .domains) (e .domain)) (e .xn)) x a size v s e
 
 -- A read, a write or a fetch: fault 1, address not a multiple of the size; else the address is translated.
 unfoldable pub access : Purpose → Operation → State → (ℕ → Translation) → Result × State
 access x o s f = cond (aligned (o .a) (accessSize o)) (translated x (o .a) (accessSize o) (o .c) s (f (o .a))) (fault 0x1, s)
 
-unfoldable pub setRegisters : State → ℕ → ℕ → ℕ → Result × State
-setRegisters s root context mode = (ok 0, record { memory = s .memory; registers = record { root = root; context = context; mode = mode } })
+unfoldable pub setRegisters : State → ℕ → ℕ → ℕ → ℕ → Result × State
+setRegisters s root context mode domains =
+    (ok 0, record { memory = s .memory; registers = record { root = root; context = context; mode = mode; domains = domains } })
 
 -- An operation carried out, where f translates addresses. A flush changes neither memory nor registers.
 unfoldable pub effect : Kind → Operation → State → (ℕ → Translation) → Result × State
 effect Read o s f = access ToRead o s f
 effect Write o s f = access ToWrite o s f
-effect Root o s f = setRegisters s (o .a) (s .registers .context) (s .registers .mode)
-effect Asid o s f = setRegisters s (s .registers .root) (o .a) (s .registers .mode)
-effect Mode o s f = setRegisters s (s .registers .root) (s .registers .context) (o .a)
+effect Root o s f = setRegisters s (o .a) (s .registers .context) (s .registers .mode) (s .registers .domains)
+effect Asid o s f = setRegisters s (s .registers .root) (o .a) (s .registers .mode) (s .registers .domains)
+effect Mode o s f = setRegisters s (s .registers .root) (s .registers .context) (o .a) (s .registers .domains)
 effect All o s f = (ok 0, s)
 effect Addr o s f = (ok 0, s)
 effect Ctx o s f = (ok 0, s)
 effect AddrCtx o s f = (ok 0, s)
 effect Fetch o s f = access ToFetch o s f
+effect Domain o s f = setRegisters s (s .registers .root) (s .registers .context) (s .registers .mode) (o .a)
 
 -- the present outcome of an address: what the walk of memory gives now
 unfoldable pub outcome : State → ℕ → Translation
@@ -229,6 +256,7 @@ flushes Ctx o (own c) page = eqb c (o .a)
 flushes Ctx o global page = false
 flushes AddrCtx o x page = eqb page (o .a / pageSize) && covers x (o .b)
 flushes Fetch o x page = false
+flushes Domain o x page = false
 
 -- ── The chip: the plain machine with a TLB of n places ──
 -- Each place may hold an entry, under the context that it was loaded in and its page.
@@ -324,13 +352,14 @@ pub data Kept : Type 0 where
   one : Entry → Kept
   several : Kept
 
--- The word of one entry: frame in bits 31..12, AP in bits 11..9, section in bit 8, global in bit 7, XN in bit 6, bit 1 set, other bits
--- clear.
+-- The word of one entry: frame in bits 31..12, AP in bits 11..9, section in bit 8, global in bit 7, XN in bit 6, domain in bits 5..2, bit 1
+-- set, bit 0 clear.
 unfoldable pub wordOf : Entry → ℕ
-wordOf e = e .frame * 4096 + e .ap * 512 + e .section * 256 + e .global * 128 + e .xn * 64 + 2
+wordOf e = e .frame * 4096 + e .ap * 512 + e .section * 256 + e .global * 128 + e .xn * 64 + e .domain * 4 + 2
 
 unfoldable pub entryOf : ℕ → Entry
-entryOf w = record { frame = bits 31 12 w; ap = bits 11 9 w; section = bits 8 8 w; global = bits 7 7 w; xn = bits 6 6 w }
+entryOf w =
+    record { frame = bits 31 12 w; ap = bits 11 9 w; section = bits 8 8 w; global = bits 7 7 w; xn = bits 6 6 w; domain = bits 5 2 w }
 
 -- Whether an entry suits the row of a scope: global entries that of `global`, the others that of a context.
 unfoldable pub suits : Scope → Entry → Bool
@@ -350,6 +379,7 @@ same x y =
     && eqb (x .section) (y .section)
     && eqb (x .global) (y .global)
     && eqb (x .xn) (y .xn)
+    && eqb (x .domain) (y .domain)
 
 -- A word after an entry was added to its set. A word that counts as several stays as found.
 unfoldable pub addTo : Kept → Entry → ℕ → ℕ
@@ -446,9 +476,17 @@ wrongTrack t = not (eqb (length t) (rowSize * (contexts t + 1)) && leb 1 (contex
 unfoldable pub refuses13 : List ℕ → List ℕ → Bool
 refuses13 m t = wrongMemory m || wrongTrack t
 
--- 14 registers out of range: root a multiple of 0x80, context 0 to k − 1, mode 0 or 1
+-- whether some of the first n fields of a domain register is 2; it has sixteen
+unfoldable pub someField2 : ℕ → ℕ → Bool
+someField2 zero domains = false
+someField2 (suc n) domains = someField2 n domains || eqb (fieldOf domains n) 2
+
+abbrev pub wrongDomains : ℕ → Bool
+wrongDomains domains = someField2 16 domains
+
+-- 14 registers out of range: root a multiple of 0x80, context 0 to k − 1, mode 0 or 1, no field of the domain register 2
 unfoldable pub refuses14 : Registers → ℕ → Bool
-refuses14 r k = wrongRoot (r .root) || leb k (r .context) || leb 2 (r .mode)
+refuses14 r k = wrongRoot (r .root) || leb k (r .context) || leb 2 (r .mode) || wrongDomains (r .domains)
 
 -- 15 user mode: all operations but read, write, mode and fetch need kernel mode
 unfoldable pub refuses15 : Operation → Registers → Bool
@@ -459,12 +497,16 @@ unfoldable pub refuses16 : Operation → Registers → List ℕ → List ℕ →
 refuses16 o r m t =
     among (o .kind) accesses && aligned (o .a) (accessSize o) && stale t (r .context) (o .a / pageSize) (walk m (r .root) (o .a))
 
--- An operation is tested for 13, 14, then 7 to 12, 15, then 16.
+-- 17 some field of the new value of the domain register is 2
+unfoldable pub refuses17 : Operation → Bool
+refuses17 o = among (o .kind) (Domain ∷ []) && wrongDomains (o .a)
+
+-- An operation is tested for 13, 14, then 7 to 12, 17, 15, then 16.
 unfoldable pub conditions : Operation → Registers → List ℕ → List ℕ → List (ℕ × Bool)
 conditions o r m t =
     (13, refuses13 m t) ∷ (14, refuses14 r (contexts t))
     ∷ (7, refuses7 o) ∷ (8, refuses8 o) ∷ (9, refuses9 o) ∷ (10, refuses10 o) ∷ (11, refuses11 o (contexts t)) ∷ (12, refuses12 o)
-    ∷ (15, refuses15 o r) ∷ (16, refuses16 o r m t) ∷ []
+    ∷ (17, refuses17 o) ∷ (15, refuses15 o r) ∷ (16, refuses16 o r m t) ∷ []
 
 -- Start can give 13 and 10, 13 first.
 unfoldable pub startConditions : List ℕ → List ℕ → ℕ → List (ℕ × Bool)

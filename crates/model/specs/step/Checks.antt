@@ -1,5 +1,5 @@
 -- The checks that stand before an access, in their order.
-use Prim.Native.Nat.{ℕ, _+_, _*_, _/_, _%_}
+use Prim.Native.Nat.{ℕ, zero, suc, _+_, _*_, _/_, _%_}
 use mathlib.Core.Path.{_≡_}
 use mathlib.Core.Bool.{Bool, true, false, cond}
 use mathlib.Core.List.{List, [], _∷_}
@@ -7,7 +7,7 @@ use lib.Dec.{eqb, leb, ltb}
 use Rattle.model.specs.Limits.{addressLimit, rowSize, rootAlignment, memoryUnit, memoryMost, contextsMost, wordLimit}
 use Rattle.model.specs.Numbers.{checkNumber}
 use Rattle.model.specs.step.Track.{lastRow}
-use Rattle.model.specs.Types.{Registers, Operation, Kind, Read, Write, Root, Asid, Mode, All, Addr, Ctx, AddrCtx, Fetch, Refusal, WrongSize, WrongAddress, WrongValue, WrongRoot, WrongContext, WrongMode, WrongLengths, WrongRegisters, UserMode, Check, Pass, Refuse}
+use Rattle.model.specs.Types.{Registers, Operation, Kind, Read, Write, Root, Asid, Mode, All, Addr, Ctx, AddrCtx, Fetch, Domain, Refusal, WrongSize, WrongAddress, WrongValue, WrongRoot, WrongContext, WrongMode, WrongLengths, WrongRegisters, UserMode, WrongDomains, Check, Pass, Refuse}
 
 -- whether n bytes can be a memory, and n words a track
 unfoldable pub memoryFits : ℕ → Bool
@@ -22,9 +22,18 @@ lengthsFit m t = cond (memoryFits m) (trackFits t) false
 unfoldable pub rootFits : ℕ → Bool
 rootFits root = eqb (root % rootAlignment) 0
 
+-- whether none of the lowest n fields of a domain register is 2, and none of its sixteen
+unfoldable pub fieldsFit : ℕ → ℕ → Bool
+fieldsFit zero w = true
+fieldsFit (suc n) w = cond (eqb (w % 4) 2) false (fieldsFit n (w / 4))
+
+unfoldable pub domainsFit : ℕ → Bool
+domainsFit w = fieldsFit 16 w
+
 -- whether registers are in range with k contexts
 unfoldable pub registersFit : Registers → ℕ → Bool
-registersFit r k = cond (rootFits (r .root)) (cond (ltb (r .context) k) (leb (r .mode) 1) false) false
+registersFit r k =
+    cond (rootFits (r .root)) (cond (ltb (r .context) k) (cond (leb (r .mode) 1) (domainsFit (r .domains)) false) false) false
 
 -- Each of the following says whether a kind of operation passes one check.
 abbrev pub isSize : ℕ → Bool
@@ -41,6 +50,7 @@ sizeFits Addr b = true
 sizeFits Ctx b = true
 sizeFits AddrCtx b = true
 sizeFits Fetch b = true
+sizeFits Domain b = true
 
 unfoldable pub addressFits : Kind → ℕ → Bool
 addressFits Read a = ltb a addressLimit
@@ -53,6 +63,7 @@ addressFits Addr a = ltb a addressLimit
 addressFits Ctx a = true
 addressFits AddrCtx a = ltb a addressLimit
 addressFits Fetch a = ltb a addressLimit
+addressFits Domain a = true
 
 abbrev pub fitsSize : ℕ → ℕ → Bool
 fitsSize b c = cond (eqb b 1) (ltb c 256) (cond (eqb b 2) (ltb c 65536) (cond (eqb b 4) (ltb c wordLimit) true))
@@ -68,6 +79,7 @@ valueFits Addr b c = true
 valueFits Ctx b c = true
 valueFits AddrCtx b c = true
 valueFits Fetch b c = true
+valueFits Domain b c = true
 
 unfoldable pub newRootFits : Kind → ℕ → Bool
 newRootFits Read a = true
@@ -80,6 +92,7 @@ newRootFits Addr a = true
 newRootFits Ctx a = true
 newRootFits AddrCtx a = true
 newRootFits Fetch a = true
+newRootFits Domain a = true
 
 unfoldable pub contextFits : Kind → ℕ → ℕ → ℕ → Bool
 contextFits Read a b k = true
@@ -92,6 +105,7 @@ contextFits Addr a b k = true
 contextFits Ctx a b k = ltb a k
 contextFits AddrCtx a b k = ltb b k
 contextFits Fetch a b k = true
+contextFits Domain a b k = true
 
 unfoldable pub modeFits : Kind → ℕ → Bool
 modeFits Read a = true
@@ -104,6 +118,20 @@ modeFits Addr a = true
 modeFits Ctx a = true
 modeFits AddrCtx a = true
 modeFits Fetch a = true
+modeFits Domain a = true
+
+unfoldable pub newDomainsFit : Kind → ℕ → Bool
+newDomainsFit Read a = true
+newDomainsFit Write a = true
+newDomainsFit Root a = true
+newDomainsFit Asid a = true
+newDomainsFit Mode a = true
+newDomainsFit All a = true
+newDomainsFit Addr a = true
+newDomainsFit Ctx a = true
+newDomainsFit AddrCtx a = true
+newDomainsFit Fetch a = true
+newDomainsFit Domain a = domainsFit a
 
 -- whether the operation may be asked for in this mode
 unfoldable pub mayAsk : Kind → ℕ → Bool
@@ -117,6 +145,7 @@ mayAsk Addr mode = eqb mode 0
 mayAsk Ctx mode = eqb mode 0
 mayAsk AddrCtx mode = eqb mode 0
 mayAsk Fetch mode = true
+mayAsk Domain mode = eqb mode 0
 
 -- the checks of an operation on a memory of m bytes and a track of t words: what should hold, and the refusal where it does not
 unfoldable pub checks : Operation → Registers → ℕ → ℕ → List (Bool × Refusal)
@@ -129,6 +158,7 @@ checks o r m t =
     ∷ (newRootFits (o .kind) (o .a), WrongRoot)
     ∷ (contextFits (o .kind) (o .a) (o .b) (lastRow t), WrongContext)
     ∷ (modeFits (o .kind) (o .a), WrongMode)
+    ∷ (newDomainsFit (o .kind) (o .a), WrongDomains)
     ∷ (mayAsk (o .kind) (r .mode), UserMode)
     ∷ []
 

@@ -9,10 +9,10 @@ use Rattle.model.specs.Limits.{pageSize}
 use Rattle.model.specs.Numbers.{shown}
 use Rattle.model.specs.step.Memory.{bytesOf, within, loadAt, writtenAt}
 use Rattle.model.specs.step.Walk.{walkPage}
-use Rattle.model.specs.step.Rights.{permitted}
+use Rattle.model.specs.step.Rights.{fieldAt, rulingOf}
 use Rattle.model.specs.step.Track.{noteTrack, flushAll, flushPage, flushContext, flushPageIn, stalePage}
 use Rattle.model.specs.step.Checks.{checks, startChecks, firstFailing}
-use Rattle.model.specs.Types.{Registers, Returned, Operation, Kind, Read, Write, Root, Asid, Mode, All, Addr, Ctx, AddrCtx, Fetch, Entry, Alignment, Fault, SectionPermission, PagePermission, AccessOutside, Refusal, StalePage, Answer, Done, Faulted, Refused, Size, One, Two, Four, Purpose, ToRead, ToWrite, ToFetch, Loaded, Value, Outside, Outcome, Mapped, Failed, Check, Pass, Refuse, Access, Stale, Fails, Physical}
+use Rattle.model.specs.Types.{Registers, Returned, Operation, Kind, Read, Write, Root, Asid, Mode, All, Addr, Ctx, AddrCtx, Fetch, Domain, Entry, Alignment, Fault, SectionDomain, PageDomain, SectionPermission, PagePermission, AccessOutside, Refusal, StalePage, Answer, Done, Faulted, Refused, Size, One, Two, Four, Purpose, ToRead, ToWrite, ToFetch, Ruling, Allowed, PermissionDenied, DomainDenied, Loaded, Value, Outside, Outcome, Mapped, Failed, Check, Pass, Refuse, Access, Stale, Fails, Physical}
 
 -- What a start or an operation gives: what it returns, and what it leaves in memory and track.
 pub record After : Type 0 where
@@ -45,27 +45,34 @@ sizeOf b = cond (eqb b 1) One (cond (eqb b 2) Two Four)
 abbrev pub physicalOf : Entry → ℕ → ℕ
 physicalOf e a = e .frame * pageSize + a % pageSize
 
--- permission, by the entry used
+-- permission and a closed domain, by the entry used
 unfoldable pub permissionFaultOf : Entry → Fault
 permissionFaultOf e = cond (eqb (e .section) 1) SectionPermission PagePermission
 
--- an access to a page with this outcome: permission, then the bytes
-abbrev pub granted : Outcome → ℕ → Purpose → Size → ℕ → List ℕ → Access
-granted (Failed f) mode purpose size a m = Fails f
-granted (Mapped e) mode purpose size a m =
-    cond (permitted (e .ap) mode purpose (e .xn))
-    (cond (within size m (physicalOf e a)) (Physical (physicalOf e a)) (Fails AccessOutside))
-    (Fails (permissionFaultOf e))
+unfoldable pub domainFaultOf : Entry → Fault
+domainFaultOf e = cond (eqb (e .section) 1) SectionDomain PageDomain
+
+-- an access through an entry, of which this is said: a fault, or the bytes
+abbrev pub reached : Ruling → Entry → Size → ℕ → List ℕ → Access
+reached Allowed e size a m = cond (within size m (physicalOf e a)) (Physical (physicalOf e a)) (Fails AccessOutside)
+reached PermissionDenied e size a m = Fails (permissionFaultOf e)
+reached DomainDenied e size a m = Fails (domainFaultOf e)
+
+-- an access to a page with this outcome: domain and permission, then the bytes
+abbrev pub granted : Outcome → Registers → Purpose → Size → ℕ → List ℕ → Access
+granted (Failed f) r purpose size a m = Fails f
+granted (Mapped e) r purpose size a m =
+    reached (rulingOf (e .ap) (r .mode) purpose (fieldAt (r .domains) (e .domain)) (e .xn)) e size a m
 
 -- an access to a page with this outcome, which is stale or not
-unfoldable pub decided : Outcome → Bool → ℕ → Purpose → Size → ℕ → List ℕ → Access
-decided x isStale mode purpose size a m =
-    cond (eqb (a % bytesOf size) 0) (cond isStale Stale (granted x mode purpose size a m)) (Fails Alignment)
+unfoldable pub decided : Outcome → Bool → Registers → Purpose → Size → ℕ → List ℕ → Access
+decided x isStale r purpose size a m =
+    cond (eqb (a % bytesOf size) 0) (cond isStale Stale (granted x r purpose size a m)) (Fails Alignment)
 
 unfoldable pub accessAt : Registers → List ℕ → List ℕ → Purpose → Size → ℕ → Access
 accessAt r m t purpose size a =
     let x = walkPage m (r .root) (a / pageSize) in
-    decided x (stalePage t (r .context) (a / pageSize) x) (r .mode) purpose size a m
+    decided x (stalePage t (r .context) (a / pageSize) x) r purpose size a m
 
 -- the number that loading found: an access has tested that it lies in memory
 abbrev pub valueOf : Loaded → ℕ
@@ -94,13 +101,16 @@ fetchStep a r m t = readFrom (accessAt r m t ToFetch Four a) Four r m t
 
 -- registers with one of them set
 abbrev pub withRoot : Registers → ℕ → Registers
-withRoot r a = record { root = a; context = r .context; mode = r .mode }
+withRoot r a = record { root = a; context = r .context; mode = r .mode; domains = r .domains }
 
 abbrev pub withContext : Registers → ℕ → Registers
-withContext r a = record { root = r .root; context = a; mode = r .mode }
+withContext r a = record { root = r .root; context = a; mode = r .mode; domains = r .domains }
 
 abbrev pub withMode : Registers → ℕ → Registers
-withMode r a = record { root = r .root; context = r .context; mode = a }
+withMode r a = record { root = r .root; context = r .context; mode = a; domains = r .domains }
+
+abbrev pub withDomains : Registers → ℕ → Registers
+withDomains r a = record { root = r .root; context = r .context; mode = r .mode; domains = a }
 
 -- an operation that has passed the checks
 unfoldable pub operate : Kind → Operation → Registers → List ℕ → List ℕ → After
@@ -114,6 +124,7 @@ operate Addr o r m t = carried (Done 0) r m (flushPage (o .a / pageSize) t)
 operate Ctx o r m t = carried (Done 0) r m (flushContext (o .a) t)
 operate AddrCtx o r m t = carried (Done 0) r m (flushPageIn (o .b) (o .a / pageSize) t)
 operate Fetch o r m t = fetchStep (o .a) r m t
+operate Domain o r m t = carried (Done 0) (withDomains r (o .a)) m t
 
 abbrev pub afterChecks : Check → Operation → Registers → List ℕ → List ℕ → After
 afterChecks (Refuse n) o r m t = turnedBack n r m t
@@ -125,15 +136,15 @@ stepped o r m t = afterChecks (firstFailing (checks o r (length m) (length t))) 
 
 -- registers at start, and those that a refused start returns
 abbrev pub startRegisters : ℕ → Registers
-startRegisters root = record { root = root; context = 0; mode = 0 }
+startRegisters root = record { root = root; context = 0; mode = 0; domains = 0x55555555 }
 
 abbrev pub zeroRegisters : Registers
-zeroRegisters = record { root = 0; context = 0; mode = 0 }
+zeroRegisters = record { root = 0; context = 0; mode = 0; domains = 0 }
 
 abbrev pub startedBy : Check → List ℕ → List ℕ → ℕ → After
 startedBy (Refuse n) m t root = turnedBack n zeroRegisters m t
 startedBy Pass m t root = carried (Done 0) (startRegisters root) m (flushAll t)
 
--- start: context 0, kernel mode, the track emptied and noted
+-- start: context 0, kernel mode, each field of the domain register 1, the track emptied and noted
 unfoldable pub started : List ℕ → List ℕ → ℕ → After
 started m t root = startedBy (firstFailing (startChecks (length m) (length t) root)) m t root

@@ -11,14 +11,14 @@ use Rattle.model.specs.Types.{Entry, Outcome, Mapped, Failed}
 
 -- the word of one entry
 abbrev pub entryWord : Entry → ℕ
-entryWord e = e .frame % 1048576 * 4096 + e .ap % 8 * 512 + e .section % 2 * 256 + e .global % 2 * 128 + e .xn % 2 * 64 + 2
+entryWord e = e .frame % 1048576 * 4096 + e .ap % 8 * 512 + e .section % 2 * 256 + e .global % 2 * 128 + e .xn % 2 * 64 + e .domain % 16 * 4 + 2
 
 -- A row is one of two kinds: that of a context, whose entries are not global, or the global row. What follows is told the kind by a
 -- number g as entries have it: 0 or 1.
 
 -- whether a word of such a row stands for one entry
 unfoldable pub isEntry : ℕ → ℕ → Bool
-isEntry g w = cond (ltb w wordLimit) (cond (eqb (w % 64) 2) (eqb (w / 128 % 2) g) false) false
+isEntry g w = cond (ltb w wordLimit) (cond (eqb (w % 4) 2) (eqb (w / 128 % 2) g) false) false
 
 -- a word after the entry with word v, one of its row's kind, was added to its set
 unfoldable pub addEntry : ℕ → ℕ → ℕ → ℕ

@@ -4,7 +4,7 @@ use mathlib.Core.Bool.{Bool, true, false, cond}
 use mathlib.Core.List.{List}
 use lib.Dec.{eqb}
 use Rattle.model.specs.step.Memory.{loadAt}
-use Rattle.model.specs.Types.{Entry, FirstUnmapped, SecondUnmapped, FirstOutside, SecondOutside, Four, Loaded, Value, Outside, FirstLevel, Failing, Table, Section, Outcome, Mapped, Failed}
+use Rattle.model.specs.Types.{Entry, FirstUnmapped, SecondUnmapped, FirstOutside, SecondOutside, Four, Loaded, Value, Outside, Pointer, FirstLevel, Failing, Table, Section, Outcome, Mapped, Failed}
 
 -- the AP of a section's word, and of a page's
 abbrev pub sectionAp : ℕ → ℕ
@@ -30,15 +30,19 @@ largeXn w = w / 32768 % 2
 abbrev pub smallXn : ℕ → ℕ
 smallXn w = w % 2
 
--- the entries of the three kinds of mapping, for one page
+-- the domain of a level-one word
+abbrev pub firstDomain : ℕ → ℕ
+firstDomain w = w / 32 % 16
+
+-- the entries of the three kinds of mapping, for one page; d is the domain of the level-one word that points to a page's table
 abbrev pub sectionEntry : ℕ → ℕ → Entry
-sectionEntry w page = record { frame = w / 1048576 % 4096 * 256 + page % 256; ap = sectionAp w; section = 1; global = sectionGlobal w; xn = sectionXn w }
+sectionEntry w page = record { frame = w / 1048576 % 4096 * 256 + page % 256; ap = sectionAp w; section = 1; global = sectionGlobal w; xn = sectionXn w; domain = firstDomain w }
 
-abbrev pub largeEntry : ℕ → ℕ → Entry
-largeEntry w page = record { frame = w / 65536 % 65536 * 16 + page % 16; ap = pageAp w; section = 0; global = pageGlobal w; xn = largeXn w }
+abbrev pub largeEntry : ℕ → ℕ → ℕ → Entry
+largeEntry w page d = record { frame = w / 65536 % 65536 * 16 + page % 16; ap = pageAp w; section = 0; global = pageGlobal w; xn = largeXn w; domain = d }
 
-abbrev pub smallEntry : ℕ → Entry
-smallEntry w = record { frame = w / 4096 % 1048576; ap = pageAp w; section = 0; global = pageGlobal w; xn = smallXn w }
+abbrev pub smallEntry : ℕ → ℕ → Entry
+smallEntry w d = record { frame = w / 4096 % 1048576; ap = pageAp w; section = 0; global = pageGlobal w; xn = smallXn w; domain = d }
 
 -- a descriptor is a word of memory
 abbrev pub descriptorAt : List ℕ → ℕ → Loaded
@@ -51,14 +55,14 @@ kindOf w = w % 4
 abbrev pub superBit : ℕ → ℕ
 superBit w = w / 262144 % 2
 
--- the address of the table that a level-one word points to
-abbrev pub tableOf : ℕ → ℕ
-tableOf w = w / 1024 % 4194304 * 1024
+-- the table that a level-one word points to: its address, and the domain of its pages
+abbrev pub pointerOf : ℕ → Pointer
+pointerOf w = record { base = w / 1024 % 4194304 * 1024; domain = firstDomain w }
 
 -- what a level-one word says of a page
 unfoldable pub firstOf : ℕ → ℕ → FirstLevel
 firstOf w page =
-    cond (eqb (kindOf w) 1) (Table (tableOf w))
+    cond (eqb (kindOf w) 1) (Table (pointerOf w))
     (cond (eqb (kindOf w) 2)
     (cond (eqb (superBit w) 0) (Section (sectionEntry w page)) (Failing FirstUnmapped))
     (Failing FirstUnmapped))
@@ -70,18 +74,18 @@ firstFrom Outside page = Failing FirstOutside
 unfoldable pub firstAt : List ℕ → ℕ → ℕ → FirstLevel
 firstAt m root page = firstFrom (descriptorAt m (root + 4 * (page / 256))) page
 
--- what a level-two word says of a page
-unfoldable pub secondOf : ℕ → ℕ → Outcome
-secondOf w page =
+-- what a level-two word says of a page, in a table of domain d
+unfoldable pub secondOf : ℕ → ℕ → ℕ → Outcome
+secondOf w page d =
     cond (eqb (kindOf w) 0) (Failed SecondUnmapped)
-    (cond (eqb (kindOf w) 1) (Mapped (largeEntry w page)) (Mapped (smallEntry w)))
+    (cond (eqb (kindOf w) 1) (Mapped (largeEntry w page d)) (Mapped (smallEntry w d)))
 
-abbrev pub secondFrom : Loaded → ℕ → Outcome
-secondFrom (Value w) page = secondOf w page
-secondFrom Outside page = Failed SecondOutside
+abbrev pub secondFrom : Loaded → ℕ → ℕ → Outcome
+secondFrom (Value w) page d = secondOf w page d
+secondFrom Outside page d = Failed SecondOutside
 
-unfoldable pub secondAt : List ℕ → ℕ → ℕ → Outcome
-secondAt m table page = secondFrom (descriptorAt m (table + 4 * (page % 256))) page
+unfoldable pub secondAt : List ℕ → Pointer → ℕ → Outcome
+secondAt m table page = secondFrom (descriptorAt m (table .base + 4 * (page % 256))) page (table .domain)
 
 -- the whole walk
 abbrev pub walkFrom : FirstLevel → List ℕ → ℕ → Outcome

@@ -3,7 +3,7 @@ use native.Mathlib.Omega.{arith}
 use lib.ListN.{length}
 use denote.Ref.{now}
 use Rattle.text.proofs.PutLaws.{wrote-fits}
-use Rattle.model.specs.declared.Kind.the-variants.{Read, Write, Root, Asid, Mode, All, Addr, Ctx, AddrCtx, Fetch}
+use Rattle.model.specs.declared.Kind.the-variants.{Read, Write, Root, Asid, Mode, All, Addr, Ctx, AddrCtx, Fetch, Domain}
 use Rattle.names.specs.Names.{name}
 use borrow.Author.Needs.{needs}
 use Rattle.names.proofs.copy_name.Statement.{statement}
@@ -102,6 +102,15 @@ slice-aggregate-put-10 c = search needs
 put-requires-10 : tie.Need-put-requires-10
 put-requires-10 c κs = search needs
 
+enum-told-11 : tie.Need-enum-told-11
+enum-told-11 c = search needs
+
+slice-aggregate-put-11 : tie.Need-slice-aggregate-put-11
+slice-aggregate-put-11 c = search needs
+
+put-requires-11 : tie.Need-put-requires-11
+put-requires-11 c κs = search needs
+
 same-length : tie.Need-same-length
 same-length c = search needs
 
@@ -172,6 +181,13 @@ returns-10 : tie.Need-returns-10
 returns-10 c = let k = c .before .before in let e = k .before .before .before in let a = e .before .before .before .args in
     rw (e .enum-told10 .given .1) (wrote-fits (length (name Fetch)) (now (a .out)) (a .at) (name Fetch) _ _ (omega (arith, e .before .before .before .pre)) (k .put10 .ensures))
 
+same-length-11 : tie.Need-same-length-11
+same-length-11 c = search needs
+
+returns-11 : tie.Need-returns-11
+returns-11 c = let k = c .before .before in let e = k .before .before .before in let a = e .before .before .before .args in
+    rw (e .enum-told11 .given .1) (wrote-fits (length (name Domain)) (now (a .out)) (a .at) (name Domain) _ _ (omega (arith, e .before .before .before .pre)) (k .put11 .ensures))
+
 pub copy-name-spec : {M : Type 1} → statement M
 copy-name-spec =
     tie.close
@@ -206,6 +222,9 @@ copy-name-spec =
     enum-told-10
     slice-aggregate-put-10
     put-requires-10
+    enum-told-11
+    slice-aggregate-put-11
+    put-requires-11
     same-length
     returns
     same-length-2
@@ -225,4 +244,6 @@ copy-name-spec =
     same-length-9
     returns-9
     same-length-10
-    returns-10)
+    returns-10
+    same-length-11
+    returns-11)

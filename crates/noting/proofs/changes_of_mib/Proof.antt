@@ -29,11 +29,8 @@ enum-told-2 c = search needs
 changes-by-section-requires : tie.Need-changes-by-section-requires
 changes-by-section-requires c κs = search needs
 
-enum-known-base : tie.Need-enum-known-base
-enum-known-base c = search needs
-
-cast-changes-by-table : tie.Need-cast-changes-by-table
-cast-changes-by-table c = search needs
+enum-known-table : tie.Need-enum-known-table
+enum-known-table c = search needs
 
 changes-by-table-requires : tie.Need-changes-by-table-requires
 changes-by-table-requires c κs = search needs
@@ -55,8 +52,8 @@ returns-2 c = let f = c .before .before .before in let x = f .before .before in 
 returns-3 : tie.Need-returns-3
 returns-3 c = let f = c .before .before .before .before in let x = f .before .before in let l = x .before .before in let a = l .before .before .before .before .args in
     λ h. record {
-      inOwn = c .changes-by-table .ensures h .inOwn ∙ by-first (now (a .m)) (a .at) 0 (now (a .own)) _ _ (sym (x .x .given .1) ∙ l .load .ensures) (sym (c .before .before .base .given .1) ∙ f .first-of .ensures);
-      inShared = c .changes-by-table .ensures h .inShared ∙ by-first (now (a .m)) (a .at) 1 (now (a .shared)) _ _ (sym (x .x .given .1) ∙ l .load .ensures) (sym (c .before .before .base .given .1) ∙ f .first-of .ensures);
+      inOwn = c .changes-by-table .ensures h .inOwn ∙ by-first (now (a .m)) (a .at) 0 (now (a .own)) _ _ (sym (x .x .given .1) ∙ l .load .ensures) (sym (c .before .before .table .given .1) ∙ f .first-of .ensures);
+      inShared = c .changes-by-table .ensures h .inShared ∙ by-first (now (a .m)) (a .at) 1 (now (a .shared)) _ _ (sym (x .x .given .1) ∙ l .load .ensures) (sym (c .before .before .table .given .1) ∙ f .first-of .ensures);
     }
 
 enum-told-3 : tie.Need-enum-told-3
@@ -77,8 +74,7 @@ changes-of-mib-spec =
     enum-told
     enum-told-2
     changes-by-section-requires
-    enum-known-base
-    cast-changes-by-table
+    enum-known-table
     changes-by-table-requires
     returns
     returns-2

@@ -29,11 +29,8 @@ enum-told-2 c = search needs
 note-section-requires : tie.Need-note-section-requires
 note-section-requires c κs = search needs
 
-enum-known-base : tie.Need-enum-known-base
-enum-known-base c = search needs
-
-cast-note-table : tie.Need-cast-note-table
-cast-note-table c = search needs
+enum-known-table : tie.Need-enum-known-table
+enum-known-table c = search needs
 
 note-table-requires : tie.Need-note-table-requires
 note-table-requires c κs = search needs
@@ -57,7 +54,7 @@ same-length-2 c = search needs
 
 returns-3 : tie.Need-returns-3
 returns-3 c = let f = c .before .before .before .before .before .before .before in let x = f .before .before in let l = x .before .before in let a = l .before .before .before .args in
-    c .before .before .note-table .ensures ∙ by-first (now (a .m)) (a .at) (a .global) (now (a .mib)) _ _ (sym (x .x .given .1) ∙ l .load .ensures) (sym (c .before .before .before .before .before .base .given .1) ∙ f .first-of .ensures)
+    c .before .before .note-table .ensures ∙ by-first (now (a .m)) (a .at) (a .global) (now (a .mib)) _ _ (sym (x .x .given .1) ∙ l .load .ensures) (sym (c .before .before .before .before .before .table .given .1) ∙ f .first-of .ensures)
 
 returns-4 : tie.Need-returns-4
 returns-4 c = let l = c .before .before in let a = l .before .before .before .args in
@@ -73,8 +70,7 @@ note-mib-spec =
     enum-told
     enum-told-2
     note-section-requires
-    enum-known-base
-    cast-note-table
+    enum-known-table
     note-table-requires
     enum-told-3
     returns

@@ -19,10 +19,13 @@ use Rattle.noting.proofs.word.Reads as word-reads
 use Rattle.noting.proofs.words_inside.Reads as words-inside-reads
 
 abbrev Inv-loop : tie.InvT-loop
-Inv-loop m base global mib₀ n i₀ mib i = (i ≤ n) × ((n ≤ length mib₀) × ((i < n → base + 4 * n ≤ length m) × ((n < length mib₀ → length m < base + 4 * n + 4) × ((mib ≡ mapFirst (noteTable m base global) 0 i mib₀) × (length mib ≡ length mib₀)))))
+Inv-loop m table global mib₀ base n i₀ mib i = (i ≤ n) × ((n ≤ length mib₀) × ((i < n → table .base + 4 * n ≤ length m) × ((n < length mib₀ → length m < table .base + 4 * n + 4) × ((mib ≡ mapFirst (noteTable m table global) 0 i mib₀) × (length mib ≡ length mib₀)))))
 
 abbrev μ-loop : tie.MeasureT-loop
-μ-loop m base global mib₀ n i₀ mib i = n - i
+μ-loop m table global mib₀ base n i₀ mib i = n - i
+
+cast-base : tie.Need-cast-base Inv-loop μ-loop
+cast-base c = search needs
 
 words-inside-requires : tie.Need-words-inside-requires Inv-loop μ-loop
 words-inside-requires c κs = search needs
@@ -66,17 +69,17 @@ loop-less : tie.Need-loop-less Inv-loop μ-loop
 loop-less c = omega arith
 
 loop-again : tie.Need-loop-again Inv-loop μ-loop
-loop-again c = let l = c .before .before .before .before .before in let a = l .before .before .before .before .args in
+loop-again c = let l = c .before .before .before .before .before in let a = l .before .before .before .before .before .args in
     let v = l .loop .inv .1 .1 in
-    let inside : a .base + 4 * l .loop .i + 4 ≤ length (now (a .m)) = omega (arith, v .0 (omega arith)) in
-    (omega arith, (l .loop .inv .1 .0, (λ h. v .0 (omega (arith, h)), (v .1 .0, (turn (noteTable (now (a .m)) (a .base) (a .global)) _ _ _ _ (v .1 .1 .0) (omega arith) (c .add-outcome .ensures ∙ ap (addOutcome (a .global) (getD (l .loop .mib) (l .loop .i) 0)) (c .before .second-of .ensures ∙ table-word (now (a .m)) (a .base) (l .loop .i) _ (omega arith) inside (c .before .before .word .ensures))), simp length-set (v .1 .1 .1))))))
+    let inside : a .table .base + 4 * l .loop .i + 4 ≤ length (now (a .m)) = omega (arith, v .0 (omega arith)) in
+    (omega arith, (l .loop .inv .1 .0, (λ h. v .0 (omega (arith, h)), (v .1 .0, (turn (noteTable (now (a .m)) (a .table) (a .global)) _ _ _ _ (v .1 .1 .0) (omega arith) (c .add-outcome .ensures ∙ ap (addOutcome (a .global) (getD (l .loop .mib) (l .loop .i) 0)) (c .before .second-of .ensures ∙ table-word (now (a .m)) (a .table) (l .loop .i) _ (omega arith) inside (c .before .before .word .ensures))), simp length-set (v .1 .1 .1))))))
 
 same-length : tie.Need-same-length Inv-loop μ-loop
 same-length c = c .before .loop .inv .1 .1 .1 .1 .1
 
 returns : tie.Need-returns Inv-loop μ-loop
-returns c = let l = c .before in let a = l .before .before .before .before .args in
-    by-table (now (a .m)) (a .base) (a .global) (l .loop .i) (now (a .mib)) (l .loop .mib) (omega arith) (λ h. omega (arith, l .loop .inv .1 .1 .1 .0 (omega (arith, h)))) (l .loop .inv .1 .1 .1 .1 .0)
+returns c = let l = c .before in let a = l .before .before .before .before .before .args in
+    by-table (now (a .m)) (a .table) (a .global) (l .loop .i) (now (a .mib)) (l .loop .mib) (omega arith) (λ h. omega (arith, l .loop .inv .1 .1 .1 .0 (omega (arith, h)))) (l .loop .inv .1 .1 .1 .1 .0)
 
 pub note-table-spec : {M : Type 1} → statement M
 note-table-spec =
@@ -84,6 +87,7 @@ note-table-spec =
     (tie.spec
     Inv-loop
     μ-loop
+    cast-base
     words-inside-requires
     loop-holds
     mul-w

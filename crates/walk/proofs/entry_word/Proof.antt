@@ -31,11 +31,17 @@ mul-result-5 c = search needs
 add-result-4 : tie.Need-add-result-4
 add-result-4 c = search needs
 
+mul-result-6 : tie.Need-mul-result-6
+mul-result-6 c = search needs
+
 add-result-5 : tie.Need-add-result-5
 add-result-5 c = search needs
+
+add-result-6 : tie.Need-add-result-6
+add-result-6 c = search needs
 
 returns : tie.Need-returns
 returns c = search needs
 
 pub entry-word-spec : {M : Type 1} → statement M
-entry-word-spec = tie.close (tie.spec mul-result mul-result-2 add-result mul-result-3 add-result-2 mul-result-4 add-result-3 mul-result-5 add-result-4 add-result-5 returns)
+entry-word-spec = tie.close (tie.spec mul-result mul-result-2 add-result mul-result-3 add-result-2 mul-result-4 add-result-3 mul-result-5 add-result-4 mul-result-6 add-result-5 add-result-6 returns)

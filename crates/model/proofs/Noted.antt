@@ -1,0 +1,120 @@
+-- In a run from an accepted start the track is noted after every operation: to note it again changes no word.
+use Prim.Native.Nat.{ℕ, _+_, _*_, _-_, _/_, _%_, _<_}
+use mathlib.Core.Path.{_≡_, refl, sym, ap, ap₂, _∙_, subst, subst₂}
+use mathlib.Core.Bool.{Bool, true, false, cond, true≢false}
+use mathlib.Core.List.{List, [], _∷_}
+use native.Mathlib.Omega.{arith}
+use lib.Dec.{eqb, leb}
+use lib.ListN.{length}
+use borrow.Author.Tests.{eqb-true, leb-true}
+use Rattle.model.specs.Limits.{pageSize, rowSize, contextsMost}
+use Rattle.model.specs.Numbers.{Result, ok, fault, refused, shown}
+use Rattle.model.specs.reference.Rules.{Translation, found, failed, bits, State, fresh, outcome, carriedOut, Scope, scopeOf, sameScope, flushes, Kept, empty, one, several, wordOf, entryOf, kept, same, addTo, noted, notedIn, wordAfter, contexts, trackWord, hasRow}
+use Rattle.model.specs.reference.Runs.{last, next, checkerRun, isRefused}
+use Rattle.model.specs.step.Checks.{lengthsFit, memoryFits, trackFits}
+use Rattle.model.specs.step.Machine.{After, started}
+use Rattle.model.specs.Demands.{Call, after, before}
+use Rattle.model.specs.Invisible.{Session, begun, Accepted, atEnd, checker}
+use Rattle.model.specs.Types.{Operation, Entry}
+use Rattle.model.proofs.Entries.{Fits, same-self}
+use Rattle.model.proofs.Calls.{plain, words, unchanged, track-length, start-words, start-track-length, start-lengths}
+use Rattle.model.proofs.Instance.{stateOf}
+use Rattle.model.proofs.Kept.{callAt, not-given, start-not-given, same-has, begins, kept-word, same-scope, suits-own, outcome-range}
+
+-- ── Noting twice is noting once ──
+
+add-twice : (u : Scope) (e : Entry) (w : ℕ) (k : Kept) → kept u w ≡ k → kept u (wordOf e) ≡ one e →
+    addTo (kept u (addTo k e w)) e (addTo k e w) ≡ addTo k e w
+unfolding addTo
+add-twice u e w empty q h = rw (h, same-self e)
+add-twice u e w several q h = rw q
+add-twice u e w (one x) q h = go (same x e) refl
+  where
+    of-1 : kept u 1 ≡ several
+    of-1 = unfold kept wordOf entryOf bits in refl
+
+    go : (b : Bool) → same x e ≡ b → addTo (kept u (cond b w 1)) e (cond b w 1) ≡ cond b w 1
+    go true p = rw (q, p)
+    go false p = rw of-1
+
+noted-twice : (u : Scope) (c : ℕ) (x : Translation) (w : ℕ) → ((e : Entry) → x ≡ found e → Fits e) → noted u c x (noted u c x w) ≡ noted u c x w
+unfolding noted
+noted-twice u c (failed n) w h = refl
+noted-twice u c (found e) w h = go (sameScope u (scopeOf c e)) refl
+  where
+    go : (b : Bool) → sameScope u (scopeOf c e) ≡ b →
+        cond b (addTo (kept u (cond b (addTo (kept u w) e w) w)) e (cond b (addTo (kept u w) e w) w)) (cond b (addTo (kept u w) e w) w) ≡ cond b (addTo (kept u w) e w) w
+    go false p = refl
+    go true p =
+        let in-range : Fits e = h e refl in
+        let suiting = subst (λ v. kept v (wordOf e) ≡ one e) (sym (same-scope u (scopeOf c e) p)) (kept-word (scopeOf c e) e (in-range, suits-own c e in-range)) in
+        add-twice u e w (kept u w) refl suiting
+
+again : (s : State) (u : Scope) (p w : ℕ) → notedIn s u p (notedIn s u p w) ≡ notedIn s u p w
+unfolding notedIn
+again s u p w = noted-twice u (s .registers .context) (outcome s (p * pageSize)) w (outcome-range s (p * pageSize))
+
+-- ── Throughout a run ──
+
+-- A track of whole rows that to note again would not change.
+pub record Noted (s : State) (t : List ℕ) : Type 0 where
+  pub whole : length t ≡ rowSize * (contexts t + 1)
+  pub stays : (u : Scope) (p : ℕ) → hasRow t u ≡ true → p < rowSize → notedIn s u p (trackWord t u p) ≡ trackWord t u p
+
+same-whole : (t v : List ℕ) → length v ≡ length t → length t ≡ rowSize * (contexts t + 1) → length v ≡ rowSize * (contexts v + 1)
+unfolding contexts
+same-whole t v e w = e ∙ w ∙ ap (λ n. rowSize * (n / rowSize - 1 + 1)) (sym e)
+
+noted-start : (m t : List ℕ) (root : ℕ) → isRefused (shown (started m t root .answer)) ≡ false → Noted (stateOf (started m t root)) (started m t root .track)
+noted-start m t root q = record {
+  whole = same-whole t (started m t root .track) (start-track-length m t root) (start-lengths m t root (start-not-given m t root q));
+  stays = λ u p h k.
+      let word = start-words m t root (start-not-given m t root q) u p (sym (same-has (started m t root .track) t (start-track-length m t root) u) ∙ h) k in
+      ap₂ (λ (s : State) (w : ℕ). notedIn s u p w) (begins m t root q) word ∙ again (fresh m root) u p 0 ∙ sym word;
+}
+
+-- an operation carried out, and one refused
+noted-carried : (s : State) (t : List ℕ) (o : Operation) → isRefused (shown (after (callAt s t o) .answer)) ≡ false → Noted s t →
+    Noted (stateOf (after (callAt s t o))) (after (callAt s t o) .track)
+unfolding wordAfter
+noted-carried s t o q n =
+    let x = callAt s t o in
+    let left = ap (λ (y : Result × State). y .1) (plain x (not-given x q)) in
+    record {
+      whole = same-whole t (after x .track) (track-length x) (n .whole);
+      stays = λ u p h k.
+          let word = words x (not-given x q) u p (sym (same-has (after x .track) t (track-length x) u) ∙ h) k in
+          ap₂ (λ (z : State) (w : ℕ). notedIn z u p w) left word
+          ∙ again (carriedOut o s .1) u p (cond (flushes (o .kind) o u p) 0 (trackWord t u p))
+          ∙ sym word;
+    }
+
+pub is-refused : (x : Result) → isRefused x ≡ true → (r : ℕ) × (x ≡ refused r)
+unfolding isRefused
+is-refused (ok v) q = absurd (true≢false (sym q))
+is-refused (fault n) q = absurd (true≢false (sym q))
+is-refused (refused r) q = (r, refl)
+
+-- a refused call leaves the state and the track as they were
+pub left-alone : (s : State) (t : List ℕ) (o : Operation) → isRefused (shown (after (callAt s t o) .answer)) ≡ true →
+    (stateOf (after (callAt s t o)) ≡ s) × (after (callAt s t o) .track ≡ t)
+left-alone s t o q =
+    let r = is-refused (shown (after (callAt s t o) .answer)) q in
+    let l = unchanged (callAt s t o) (r .0) (r .1) in
+    (λ i. record { memory = l .memory i; registers = l .registers i }, l .track)
+
+noted-next : (s : State) (t : List ℕ) (o : Operation) → Noted s t → Noted (stateOf (after (callAt s t o))) (after (callAt s t o) .track)
+noted-next s t o n = go (isRefused (shown (after (callAt s t o) .answer))) refl
+  where
+    go : (b : Bool) → isRefused (shown (after (callAt s t o) .answer)) ≡ b → Noted (stateOf (after (callAt s t o))) (after (callAt s t o) .track)
+    go false q = noted-carried s t o q n
+    go true q = let l = left-alone s t o q in subst₂ Noted (sym (l .0)) (sym (l .1)) n
+
+noted-run : (x : After) (os : List Operation) → Noted (stateOf x) (x .track) →
+    Noted (stateOf (last x (checkerRun checker x os))) (last x (checkerRun checker x os) .track)
+unfolding last checkerRun
+noted-run x [] n = n
+noted-run x (o ∷ os) n = noted-run (next checker o x) os (noted-next (stateOf x) (x .track) o n)
+
+pub noted-at-end : (x : Session) → Accepted checker x → Noted (stateOf (atEnd checker x)) (atEnd checker x .track)
+noted-at-end x acc = noted-run (begun checker x) (x .operations) (noted-start (x .image) (x .track) (x .root) acc)
