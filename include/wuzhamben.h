@@ -20,6 +20,8 @@ enum {
     WUZHAMBEN_NO_MAPPING_1 = 0x5,         /* level one */
     WUZHAMBEN_NO_MAPPING_2 = 0x7,         /* level two */
     WUZHAMBEN_ACCESS_OUTSIDE = 0x8,       /* bytes not in memory */
+    WUZHAMBEN_DOMAIN_SECTION = 0x9,       /* the field of the entry's domain is 0 */
+    WUZHAMBEN_DOMAIN_PAGE = 0xb,          /* the same */
     WUZHAMBEN_WALK_OUTSIDE_1 = 0xc,       /* level-one word not in memory */
     WUZHAMBEN_PERMISSION_SECTION = 0xd,   /* AP, or XN at a fetch */
     WUZHAMBEN_WALK_OUTSIDE_2 = 0xe,       /* level-two word not in memory */
@@ -37,17 +39,23 @@ enum {
     WUZHAMBEN_ADDR,    /* flushes the page of a in every context, and its global entry */
     WUZHAMBEN_CTX,     /* flushes context a, but no global entry */
     WUZHAMBEN_ADDRCTX, /* flushes the page of a in context b, and its global entry whatever b is */
-    WUZHAMBEN_FETCH    /* a address: four bytes, where reading is allowed and XN is clear */
+    WUZHAMBEN_FETCH,   /* a address: four bytes, where reading is allowed and XN is clear */
+    WUZHAMBEN_DOMAIN   /* a the new domain register */
 };
+
+/* The domain register has a field of two bits for each of sixteen domains, that of domain d in bits 2d + 1..2d. An access goes by the field
+ * of its entry's domain: 0 is a domain fault, 1 applies AP and XN, 3 skips both. A field of 2 is refused: 17 in the a of
+ * WUZHAMBEN_DOMAIN, 14 in the registers handed over. No TLB remembers the register, so changing it makes no page stale. */
 
 /* The walk of one virtual address through the tables at `root` in an image of 4,096 to 16,777,216 bytes (a multiple of 4,096). The
  * value is the entry's track word: frame in bits 31..12, AP in bits 11..9, bit 8 set for a section, bit 7 set where nG is clear (the
- * entry is global), bit 6 set where XN is set, bit 1 set. */
+ * entry is global), bit 6 set where XN is set, the domain (bits 8..5 of the level-one word) in bits 5..2, bit 1 set. */
 uint64_t walk_image(const uint8_t *image, size_t image_length, uint32_t root, uint32_t address);
 
 /* A start from `memory`, which is only read. It empties and notes `track`, which has 1,024 words for each of 1 to 256 contexts and 1,024
- * more for the global entries, and leaves root, context and mode in the three words of `registers`. The number of contexts is told by
- * `track_length` alone: track_length / 1024 - 1. A refused start leaves zero registers and the track as it was. */
+ * more for the global entries, and leaves root, context, mode and the domain register, 0x55555555, in the four words of `registers`. The
+ * number of contexts is told by `track_length` alone: track_length / 1024 - 1. A refused start leaves zero registers and the track as it
+ * was. */
 uint64_t machine_start(const uint8_t *memory, size_t memory_length, uint32_t *track, size_t track_length, uint32_t root,
                        uint32_t *registers, size_t registers_length);
 

@@ -152,16 +152,19 @@ pub fn domain_fault(e: Entry) -> Fault
 pub fn reach(x: Ruling, e: Entry, size: Size, a: u32, m: &[u8]) -> Access
     ensures { λ r. ⌜ r ≡ reached x e size a (now (m .entry)) ⌝ }
 {
+    let at = e.frame as usize * 4096 + a as usize % 4096; // pageSize
+    let found = memory::inside(m, at, size);
+    let denied = permission_fault(e);
+    let closed = domain_fault(e);
     match x {
+        Ruling::DomainDenied => Access::Fails(closed),
+        Ruling::PermissionDenied => Access::Fails(denied),
         Ruling::Allowed => {
-            let at = e.frame as usize * 4096 + a as usize % 4096; // pageSize
-            if memory::inside(m, at, size) {
+            if found {
                 return Access::Physical(at);
             }
             Access::Fails(Fault::AccessOutside)
         }
-        Ruling::PermissionDenied => Access::Fails(permission_fault(e)),
-        Ruling::DomainDenied => Access::Fails(domain_fault(e)),
     }
 }
 

@@ -1,5 +1,6 @@
 //! The images that are walked and on which lists are timed.
 use model::generate;
+use model::random::Random;
 
 /// nG of a page, and of a section.
 pub const NG_PAGE: u32 = 1 << 11;
@@ -13,6 +14,17 @@ fn put(image: &mut [u8], at: u32, word: u32) {
 pub fn image_a_mixed() -> Vec<u8> {
     let mut image = generate::image_a();
     put(&mut image, 0x404, 0x3832 & !NG_PAGE);
+    image
+}
+
+/// A generated image whose root has a table, a section, no mapping and a table behind memory, all
+/// in domain 0: a walk that tells no domain answers alike.
+pub fn image_generated() -> Vec<u8> {
+    let mut image = generate::image(&mut Random::new(1));
+    let behind = image.len() as u32;
+    for (mib, word) in (0..).zip([0x401, 0xC02 | NG_SECTION, 0, behind | 1]) {
+        put(&mut image, 4 * mib, word);
+    }
     image
 }
 

@@ -2,7 +2,7 @@
 use crate::images::{image_a_mixed, image_of_sections, image_of_tables, NG_PAGE};
 use crate::timing::{print_row, shortest};
 use model::generate;
-use model::machine::{Kind, Operation};
+use model::machine::{Kind, Operation, CLIENTS};
 use std::path::Path;
 use std::process::Command;
 use std::{env, fs};
@@ -27,17 +27,22 @@ fn descriptor_store(i: u32) -> Operation {
     op(Kind::Write, 0x408 + 4 * word, 4, value)
 }
 
-/// The lists. Each is within 65,536 bytes.
-fn lists() -> Vec<List> {
-    let data = |i: u32| op(Kind::Write, 0x1000 + i % 256, 1, i % 16);
-    let flush = |i: u32| match i % 4 {
+/// The flushes in turn, of one page and of each context.
+fn flush(i: u32) -> Operation {
+    match i % 4 {
         0 => op(Kind::All, 0, 0, 0),
         1 => op(Kind::Addr, 0x1000, 0, 0),
         2 => op(Kind::Ctx, i % 8, 0, 0),
         _ => op(Kind::AddrCtx, 0x1000, i % 8, 0),
-    };
+    }
+}
+
+/// The lists. Each is within 65,536 bytes.
+fn lists() -> Vec<List> {
+    let data = |i: u32| op(Kind::Write, 0x1000 + i % 256, 1, i % 16);
     let read = |i: u32| op(Kind::Read, 0x1000 + i % 256, 1, 0);
     let fetch = |i: u32| op(Kind::Fetch, 0x1000 + 4 * (i % 64), 0, 0);
+    let domain = |i: u32| op(Kind::Domain, CLIENTS ^ (i % 2), 0, 0);
     let all = |n: u32, operation: &dyn Fn(u32) -> Operation| (0..n).map(operation).collect();
     let on_image_a = |name, operations| List {
         name,
@@ -56,6 +61,7 @@ fn lists() -> Vec<List> {
         on_image_a("3,500 flushes", all(3_500, &flush)),
         on_image_a("4,000 reads", all(4_000, &read)),
         on_image_a("4,000 fetches", all(4_000, &fetch)),
+        on_image_a("3,000 changes of the domain register", all(3_000, &domain)),
         reads(
             "4,000 reads, all 1,024 pages mapped by tables",
             image_of_tables([NG_PAGE, 0]),

@@ -1,8 +1,9 @@
 //! Single walks, through the C function and through the model.
 use crate::archive::Archive;
-use crate::images::{image_of_root_words, image_of_sections, image_of_tables, NG_PAGE};
+use crate::images::{
+    image_generated, image_of_root_words, image_of_sections, image_of_tables, NG_PAGE,
+};
 use crate::timing::{print_row, shortest};
-use model::generate;
 use model::random::Random;
 use model::walk::{fault, single_walk};
 use std::hint::black_box;
@@ -84,8 +85,7 @@ fn alike() -> [(&'static str, Vec<u8>, u32, End); 6] {
 
 /// All walks that are timed: of a generated image, which end in every way, then those that end alike.
 fn all() -> Vec<Walks> {
-    let mixed = generate::image(&mut Random::new(1));
-    let mut all = vec![walks("a generated image", mixed, 0)];
+    let mut all = vec![walks("a generated image", image_generated(), 0)];
     for (name, image, root, expected) in alike() {
         let walks = walks(name, image, root);
         for a in &walks.addresses {

@@ -30,7 +30,7 @@ pub fn walk(image: &[u8], root: u32, address: u32) -> u64 {
     unsafe { walk_image(image.as_ptr(), image.len(), root, address) }
 }
 
-/// A start. `registers` are root, context and mode, and hold what the start returned.
+/// A start. `registers` are root, context, mode and domains, and hold what the start returned.
 pub fn start(memory: &[u8], track: &mut [u32], root: u32, registers: &mut [u32]) -> u64 {
     // SAFETY: each pointer and length are those of a slice that lives through the call, and the
     // slices that are written overlap no other.

@@ -15,6 +15,10 @@ const ADDR: u32 = 6;
 const CTX: u32 = 7;
 const ADDRCTX: u32 = 8;
 const FETCH: u32 = 9;
+const DOMAIN: u32 = 10;
+
+/// The domain register after a start.
+const CLIENTS: u32 = 0x5555_5555;
 
 /// An empty track for this many contexts: a row for each, and the global one.
 fn track(contexts: usize) -> Vec<u32> {
@@ -79,13 +83,36 @@ fn walks_with_xn() {
     assert_eq!(calls::walk(&image, 0, 0x2A_B000), 0x300A_B7C2);
 }
 
+/// The domain of a section, and of the word that points to a page's table, stands in bits 5..2.
+#[test]
+fn walks_in_domains() {
+    for domain in 0..16 {
+        let mut image = image_a();
+        put(&mut image, &[(0x0, 0x401 | domain << 5)]);
+        put(&mut image, &[(0x4, 0x3002_0C02 | domain << 5)]);
+        put(&mut image, &[(0x408, 0x3033), (0x440, 0x2_0831)]);
+        for (address, word) in [
+            (0x0, 0x202),
+            (0x1000, 0x3602),
+            (0x2000, 0x36C2),
+            (0x1_0000, 0x2_0602),
+            (0x1A_B000, 0x300A_B702),
+        ] {
+            let expected = u64::from(word | domain << 2);
+            let found = calls::walk(&image, 0, address);
+            assert_eq!(found, expected, "{address:#x}, domain {domain}");
+        }
+        assert_eq!(calls::walk(&image, 0, 0x3000), FAULT + 7);
+    }
+}
+
 #[test]
 fn the_list() {
     let mut memory = image_a();
     let mut track = vec![7; 9 * 1024];
-    let mut registers = [9; 3];
+    let mut registers = [9; 4];
     assert_eq!(calls::start(&memory, &mut track, 0, &mut registers), 0);
-    assert_eq!(registers, [0, 0, 0]);
+    assert_eq!(registers, [0, 0, 0, CLIENTS]);
     assert_eq!(track[..2], [0x202, 0x3602]);
     assert!(track[2..].iter().all(|&word| word == 0));
     let lines: [([u32; 4], u64); 10] = [
@@ -107,7 +134,7 @@ fn the_list() {
             assert_eq!(track[1], 1);
         }
     }
-    assert_eq!(registers, [0, 0, 1]);
+    assert_eq!(registers, [0, 0, 1, CLIENTS]);
     assert_eq!(track[1], 0x4602);
     let mut expected = image_a();
     expected[0x404..0x408].copy_from_slice(&0x4832_u32.to_le_bytes());
@@ -121,13 +148,13 @@ fn asid_then_root() {
     put(&mut memory, &[(0x400, 0x832), (0x80, 0x801)]);
     put(&mut memory, &[(0x800, 0x832), (0x804, 0x4832)]);
     let mut track = track(2);
-    let mut registers = [0; 3];
+    let mut registers = [0; 4];
     assert_eq!(calls::start(&memory, &mut track, 0, &mut registers), 0);
     for operation in [[ASID, 1, 0, 0], [ROOT, 0x80, 0, 0]] {
         let answer = calls::step(&operation, &mut registers, &mut memory, &mut track);
         assert_eq!(answer, 0);
     }
-    assert_eq!(registers, [0x80, 1, 0]);
+    assert_eq!(registers, [0x80, 1, 0, CLIENTS]);
     assert_eq!(track[..2], [0x602, 0x3602]);
     assert_eq!(track[1024..1026], [0x602, 1]);
     assert!(track[2048..].iter().all(|&word| word == 0));
@@ -145,7 +172,7 @@ fn a_global_page() {
     let mut memory = image_a();
     put(&mut memory, &[(0x404, 0x3032)]);
     let mut track = track(2);
-    let mut registers = [0; 3];
+    let mut registers = [0; 4];
     assert_eq!(calls::start(&memory, &mut track, 0, &mut registers), 0);
     let rows = |track: &[u32]| [0, 1024, 2048].map(|at| [track[at], track[at + 1]]);
     assert_eq!(rows(&track), [[0x202, 0], [0, 0], [0, 0x3682]]);
@@ -203,12 +230,12 @@ fn a_global_page() {
 struct Started {
     memory: Vec<u8>,
     track: Vec<u32>,
-    registers: [u32; 3],
+    registers: [u32; 4],
 }
 
 impl Started {
     fn with(words: &[(usize, u32)]) -> Started {
-        let (mut memory, mut track, mut registers) = (image_a(), track(1), [9; 3]);
+        let (mut memory, mut track, mut registers) = (image_a(), track(1), [9; 4]);
         put(&mut memory, words);
         assert_eq!(calls::start(&memory, &mut track, 0, &mut registers), 0);
         Started {
@@ -229,6 +256,18 @@ impl Started {
             assert_eq!(self.step([MODE, mode, 0, 0]), 0);
             [[READ, address, 4, 0], [FETCH, address, 0, 0]].map(|o| self.step(o))
         })
+    }
+
+    /// The answers to a read, to a write of the word that stands at 0x3000 and to a fetch, in
+    /// kernel mode, then in user mode. It begins and ends in kernel mode.
+    fn accessed(&mut self, address: u32) -> [[u64; 3]; 2] {
+        let write = [WRITE, address, 4, 0x1234_5678];
+        let accesses = [[READ, address, 4, 0], write, [FETCH, address, 0, 0]];
+        let kernel = accesses.map(|o| self.step(o));
+        assert_eq!(self.step([MODE, 1, 0, 0]), 0);
+        let user = accesses.map(|o| self.step(o));
+        assert_eq!(self.step([MODE, 0, 0, 0]), 0);
+        [kernel, user]
     }
 }
 
@@ -368,12 +407,13 @@ fn xn_alone_changed() {
     }
 }
 
-/// A lent word of page 1 that differs from that of its entry in one bit: with XN it is another
-/// entry, and noting leaves 1; with a bit that no entry has it stays. A flush leaves the right word.
+/// A lent word of page 1 that differs from that of its entry in one bit. With another section bit,
+/// XN or domain it is another entry, and noting leaves 1; with bit 0, without bit 1, or with a bit
+/// 7 that does not suit the row it stays. A flush leaves the right word.
 #[test]
-fn words_with_a_bit_more() {
-    for bit in 2..=6 {
-        let lent = 0x3602 | 1 << bit;
+fn words_that_differ_in_one_bit() {
+    for bit in 0..=8 {
+        let lent = 0x3602 ^ 1 << bit;
         let mut started = Started::with(&[]);
         started.track[1] = lent;
         for access in [[READ, 0x1000, 4, 0], [FETCH, 0x1000, 0, 0]] {
@@ -381,10 +421,276 @@ fn words_with_a_bit_more() {
         }
         assert_eq!(started.track[1], lent, "bit {bit}");
         assert_eq!(started.step([FETCH, 0x1002, 0, 0]), FAULT + 1);
-        let noted = if bit == 6 { 1 } else { lent };
+        let noted = if [0, 1, 7].contains(&bit) { lent } else { 1 };
         assert_eq!(started.track[1], noted, "bit {bit}");
         assert_eq!(started.step([CTX, 0, 0, 0]), 0);
         assert_eq!(started.track[1], 0x3602, "bit {bit}");
+    }
+}
+
+/// The domain register after a start, after `domain`, which looks at neither b nor c, and after one
+/// that is refused: for a field of 2, or in user mode. Where both hold it is 17.
+#[test]
+fn the_domain_register() {
+    let mut started = Started::with(&[]);
+    assert_eq!(started.registers, [0, 0, 0, CLIENTS]);
+    let in_kernel_mode = [
+        ([DOMAIN, 0, 0, 0], 0, 0),
+        ([DOMAIN, 0x5555_5556, 0, 0], REFUSAL + 17, 0),
+        ([DOMAIN, u32::MAX, u32::MAX, u32::MAX], 0, u32::MAX),
+        ([DOMAIN, 0x9555_5555, 0, 0], REFUSAL + 17, u32::MAX),
+        ([DOMAIN, 0xC000_0003, 1, 1], 0, 0xC000_0003),
+        ([DOMAIN, 0xAAAA_AAAA, 0, 0], REFUSAL + 17, 0xC000_0003),
+    ];
+    for (operation, answer, left) in in_kernel_mode {
+        assert_eq!(started.step(operation), answer, "{operation:x?}");
+        assert_eq!(started.registers, [0, 0, 0, left], "{operation:x?}");
+    }
+    assert_eq!(started.step([MODE, 1, 0, 0]), 0);
+    for (value, number) in [(CLIENTS, 15), (0xC000_0003, 15), (2, 17), (2 << 30, 17)] {
+        let given = started.step([DOMAIN, value, 0, 0]);
+        assert_eq!(given, REFUSAL + number, "{value:#x}");
+        assert_eq!(started.registers, [0, 0, 1, 0xC000_0003], "{value:#x}");
+    }
+}
+
+/// Each field by itself: a 2 there is 17 in a new value, and 14 in the register that is held,
+/// whatever the operation.
+#[test]
+fn a_field_of_2() {
+    for domain in 0..16 {
+        for rest in [0, CLIENTS, u32::MAX] {
+            let field = |n: u32| rest & !(3 << (2 * domain)) | n << (2 * domain);
+            let mut started = Started::with(&[]);
+            for n in [0, 1, 3] {
+                assert_eq!(started.step([DOMAIN, field(n), 0, 0]), 0);
+                assert_eq!(started.registers[3], field(n));
+            }
+            assert_eq!(started.step([DOMAIN, field(2), 0, 0]), REFUSAL + 17);
+            assert_eq!(started.registers[3], field(3));
+            started.registers[3] = field(2);
+            let left = (started.memory.clone(), started.track.clone());
+            for kind in READ..=DOMAIN {
+                let given = started.step([kind, 0, 3, 0]);
+                assert_eq!(given, REFUSAL + 14, "kind {kind}, {:#x}", field(2));
+            }
+            assert_eq!(started.step([DOMAIN, field(2), 0, 0]), REFUSAL + 14);
+            assert_eq!(started.registers[3], field(2));
+            assert!(left == (started.memory, started.track));
+        }
+    }
+}
+
+/// Zero registers, as a refused start returns them, are in range, and close every domain.
+#[test]
+fn after_a_refused_start() {
+    let (mut memory, mut track, mut registers) = (image_a(), track(1), [9; 4]);
+    put(&mut memory, &[(0x4, 0x2_0C02)]);
+    let answer = calls::start(&memory, &mut track, 0x40, &mut registers);
+    assert_eq!((answer, registers), (REFUSAL + 10, [0; 4]));
+    assert!(track.iter().all(|&word| word == 0));
+    for (address, answer) in [
+        (0x0, FAULT + 0xb),
+        (0x1000, FAULT + 0xb),
+        (0x10_0000, FAULT + 0x9),
+        (0x2000, FAULT + 0x7),
+        (0x20_0000, FAULT + 0x5),
+    ] {
+        let read = [READ, address, 4, 0];
+        let given = calls::step(&read, &mut registers, &mut memory, &mut track);
+        assert_eq!(given, answer, "{address:#x}");
+    }
+    assert_eq!(registers, [0; 4]);
+}
+
+/// A domain register with this field for a domain, and in all others one that would not do: 3 where
+/// it is 0, else 0.
+fn field_alone(domain: u32, field: u32) -> u32 {
+    let others = if field == 0 { u32::MAX } else { 0 };
+    others & !(3 << (2 * domain)) | field << (2 * domain)
+}
+
+/// In each domain, address 0x3000 by a small page, a large page and a section, of which each has AP
+/// 3 and XN clear, or AP 0 and XN set. With field 0 nothing is allowed, with 3 everything, in both
+/// modes; with 1 it goes by AP and XN. The fields of the other domains do not matter.
+#[test]
+fn accesses_by_the_field_of_their_domain() {
+    let free = [[0x1234_5678, 0, 0x1234_5678]; 2];
+    let all = |fault| [[FAULT + fault; 3]; 2];
+    for domain in 0..16 {
+        for (small, large, section, has_rights) in [
+            (0x3832, 0x831, 0x2_0C02, true),
+            (0x3803, 0x8801, 0x2_0012, false),
+        ] {
+            let pages = [(0x0, 0x401 | domain << 5), (0x404, small), (0x44C, large)];
+            let words = [&pages[..], &[(0x4, section | domain << 5)]].concat();
+            let mut started = Started::with(&words);
+            for (address, closed, permission) in [
+                (0x1000, 0xb, 0xf),
+                (0x1_3000, 0xb, 0xf),
+                (0x10_3000, 0x9, 0xd),
+            ] {
+                let by_rights = if has_rights { free } else { all(permission) };
+                for (field, expected) in [(0, all(closed)), (1, by_rights), (3, free)] {
+                    let value = field_alone(domain, field);
+                    assert_eq!(started.step([DOMAIN, value, 0, 0]), 0);
+                    let found = started.accessed(address);
+                    assert_eq!(found, expected, "{address:#x}, domain {domain}, {field}");
+                }
+            }
+        }
+    }
+}
+
+/// Page 1 with each AP, XN clear and set: whatever they are, field 0 allows nothing and field 3
+/// everything.
+#[test]
+fn field_0_and_field_3_by_ap_and_xn() {
+    let free = [[0x1234_5678, 0, 0x1234_5678]; 2];
+    for ap in 0..8 {
+        for xn in 0..2 {
+            let small = 0x3802 | (ap & 3) << 4 | (ap >> 2) << 9 | xn;
+            let mut started = Started::with(&[(0x404, small)]);
+            for (field, expected) in [(0, [[FAULT + 0xb; 3]; 2]), (3, free)] {
+                let value = field_alone(0, field);
+                assert_eq!(started.step([DOMAIN, value, 0, 0]), 0);
+                let found = started.accessed(0x1000);
+                assert_eq!(found, expected, "AP {ap}, XN {xn}, field {field}");
+            }
+        }
+    }
+}
+
+/// What comes before the domain fault and what behind it, by the field: alignment and the faults of
+/// the walk are the same in all; bytes that are not in memory show where the access is allowed.
+#[test]
+fn the_place_of_the_domain_fault() {
+    let words = [(0x8, 0x8001), (0x404, 0x8832), (0x408, 0x8803)];
+    let words = [&words[..], &[(0xC, 0x10_0002 | 1 << 17)]].concat();
+    for (field, open_page, shut_page, shut_section) in
+        [(0, 0xb, 0xb, 0x9), (1, 0x8, 0xf, 0xd), (3, 0x8, 0x8, 0x8)]
+    {
+        let mut started = Started::with(&words);
+        assert_eq!(started.step([DOMAIN, field, 0, 0]), 0);
+        for (address, fault) in [
+            (0x1002, 0x1),
+            (0x10_0000, 0x5),
+            (0x20_0000, 0xe),
+            (0x3000, 0x7),
+            (0x1000, open_page),
+            (0x2000, shut_page),
+            (0x30_0000, shut_section),
+        ] {
+            for access in [[READ, address, 4, 0], [FETCH, address, 0, 0]] {
+                let given = started.step(access);
+                assert_eq!(given, FAULT + fault, "{access:x?}, field {field}");
+            }
+        }
+        assert_eq!(started.step([ROOT, 0x8000, 0, 0]), 0);
+        assert_eq!(started.step([ALL, 0, 0, 0]), 0);
+        assert_eq!(started.step([READ, 0x1000, 4, 0]), FAULT + 0xc);
+    }
+}
+
+/// Only the domain changes, of a section's word or of the word that points to a table: every page
+/// that it maps is at 1 and stale for every access until a flush, and no other page is. A closed
+/// domain does not come before that.
+#[test]
+fn the_domain_alone_changed() {
+    let sections = [(0x4, 0x2_0C02), (0x8, 0x2_0C02)];
+    for (at, new, mapped, noted) in [
+        (0x4, 0x2_0CA2, 256..512, [0x716, 0x1716]),
+        (0x0, 0x4A1, 0..2, [0x216, 0x3616]),
+    ] {
+        let mut started = Started::with(&sections);
+        let before = started.track.clone();
+        assert_eq!(started.step([WRITE, at, 4, new]), 0);
+        let marked = |page: usize| {
+            if mapped.contains(&page) {
+                1
+            } else {
+                before[page]
+            }
+        };
+        assert!(started.track[..1024] == (0..1024).map(marked).collect::<Vec<u32>>());
+        for domains in [CLIENTS, 0, u32::MAX] {
+            assert_eq!(started.step([DOMAIN, domains, 0, 0]), 0);
+            for page in mapped.clone() {
+                let found = started.accessed((page as u32) << 12);
+                assert_eq!(found, [[REFUSAL + 16; 3]; 2], "page {page}");
+            }
+            let other = started.step([READ, 0x20_3000, 4, 0]);
+            let expected = if domains == 0 {
+                FAULT + 0x9
+            } else {
+                0x1234_5678
+            };
+            assert_eq!(other, expected);
+        }
+        assert_eq!(started.step([CTX, 0, 0, 0]), 0);
+        assert_eq!(started.track[mapped.start..][..2], noted);
+        assert_eq!(started.step([READ, 0x10_3000, 4, 0]), 0x1234_5678);
+    }
+}
+
+/// The domain alone is changed and changed back in context 1: both entries stand in its set, and
+/// context 0, which noted the first alone, trusts it until it is changed there.
+#[test]
+fn the_domain_changed_and_changed_back() {
+    for (at, old, new, address) in [
+        (0x4, 0x2_0C02, 0x2_0D02, 0x10_3000),
+        (0x0, 0x401, 0x501, 0x1000),
+    ] {
+        let (mut memory, mut track, mut registers) = (image_a(), track(2), [0; 4]);
+        // Page 512 is the tables, by a table of its own.
+        put(
+            &mut memory,
+            &[(0x4, 0x2_0C02), (0x8, 0x801), (0x800, 0x832)],
+        );
+        assert_eq!(calls::start(&memory, &mut track, 0, &mut registers), 0);
+        let (read, store) = ([READ, address, 4, 0], |word| {
+            [WRITE, 0x20_0000 + at, 4, word]
+        });
+        for (operation, answer) in [
+            ([ASID, 1, 0, 0], 0),
+            (read, 0x1234_5678),
+            (store(new), 0),
+            (read, REFUSAL + 16),
+            (store(old), 0),
+            (read, REFUSAL + 16),
+            ([ASID, 0, 0, 0], 0),
+            (read, 0x1234_5678),
+            (store(new), 0),
+            (read, REFUSAL + 16),
+            ([CTX, 0, 0, 0], 0),
+            (read, 0x1234_5678),
+        ] {
+            let given = calls::step(&operation, &mut registers, &mut memory, &mut track);
+            assert_eq!(given, answer, "{operation:x?}");
+        }
+    }
+}
+
+/// `domain` changes no word of the track and makes no page stale: what is noted already is used
+/// with the register of the time of the access.
+#[test]
+fn a_new_domain_register_makes_nothing_stale() {
+    let mut started = Started::with(&[(0x4, 0x2_0C02 | 15 << 5), (0x408, 0x3033)]);
+    let (memory, track) = (started.memory.clone(), started.track.clone());
+    for (value, page, section) in [
+        (0x5555_5554, FAULT + 0xb, 0x1234_5678),
+        (0x1555_5555, 0x1234_5678, FAULT + 0x9),
+        (0x0, FAULT + 0xb, FAULT + 0x9),
+        (0xC000_0000, FAULT + 0xb, 0x1234_5678),
+        (u32::MAX, 0x1234_5678, 0x1234_5678),
+        (CLIENTS, 0x1234_5678, 0x1234_5678),
+    ] {
+        assert_eq!(started.step([DOMAIN, value, 0, 0]), 0);
+        for (address, answer) in [(0x1000, page), (0x10_3000, section)] {
+            let given = started.step([READ, address, 4, 0]);
+            assert_eq!(given, answer, "{value:#x}, {address:#x}");
+        }
+        assert!(started.memory == memory && started.track == track);
     }
 }
 
@@ -405,7 +711,7 @@ fn lengths_of_tracks() {
         (258 * 1024, false),
     ] {
         let expected = if fits { 0 } else { REFUSAL + 13 };
-        let (mut track, mut registers) = (vec![0; words], [0; 3]);
+        let (mut track, mut registers) = (vec![0; words], [0; 4]);
         let answer = calls::start(&memory, &mut track, 0, &mut registers);
         assert_eq!(answer, expected, "{words} words, start");
         let mode = [MODE, 0, 0, 0];
@@ -432,7 +738,8 @@ fn words_in_a_row_of_the_other_kind() {
         (0, 1024, 0x202, [ADDRCTX, 0x0, 0, 0]),
         (1, 1, 0x3682, [CTX, 0, 0, 0]),
     ] {
-        let (mut memory, mut track, mut registers) = (image.clone(), track(1), [0; 3]);
+        let (mut memory, mut track) = (image.clone(), track(1));
+        let mut registers = [0, 0, 0, CLIENTS];
         let mut step = |operation: [u32; 4], track: &mut Vec<u32>| {
             calls::step(&operation, &mut registers, &mut memory, track)
         };
@@ -454,19 +761,23 @@ fn refusals_leave_everything() {
     let mut memory = image.clone();
     let mut track = vec![7; 2 * 1024];
     // a start with a wrong root: zero registers, the rest as lent
-    let mut registers = [9; 3];
+    let mut registers = [9; 4];
     assert_eq!(
         calls::start(&memory, &mut track, 1, &mut registers),
         REFUSAL + 10
     );
-    assert_eq!(registers, [0; 3]);
+    assert_eq!(registers, [0; 4]);
     // a wrong length, registers out of range, a stale page
-    let states: [(usize, [u32; 3], u64); 5] = [
-        (1024, [0, 0, 0], 13),
-        (2047, [0, 0, 0], 13),
-        (2048, [0, 1, 0], 14),
-        (2048, [0x40, 0, 0], 14),
-        (2048, [0, 0, 0], 16),
+    let states: [(usize, [u32; 4], u64); 9] = [
+        (1024, [0, 0, 0, CLIENTS], 13),
+        (2047, [0, 0, 0, CLIENTS], 13),
+        (2047, [0, 0, 0, 2], 13),
+        (2048, [0, 1, 0, CLIENTS], 14),
+        (2048, [0x40, 0, 0, CLIENTS], 14),
+        (2048, [0, 0, 0, 0x5555_5556], 14),
+        (2048, [0, 0, 1, 0x9555_5555], 14),
+        (2048, [0, 0, 0, CLIENTS], 16),
+        (2048, [0, 0, 0, 0], 16),
     ];
     for (words, given, refusal) in states {
         for operation in [[READ, 0, 4, 0], [FETCH, 0, 0, 0]] {
@@ -477,21 +788,40 @@ fn refusals_leave_everything() {
             assert_eq!(registers, given);
         }
     }
-    // words that are no operation
-    let mut registers = [0; 3];
+    assert!(memory == image);
+    assert!(track.iter().all(|&word| word == 7));
+}
+
+/// Words that are no operation: not four, or of no kind. Words that are no registers: not four.
+#[test]
+fn words_that_are_no_call() {
+    let image = image_a();
+    let mut memory = image.clone();
+    let mut track = vec![7; 2 * 1024];
+    let mut registers = [0, 0, 0, CLIENTS, 0];
     for operation in [
         &[READ, 0, 4][..],
         &[FETCH, 0, 0],
         &[FETCH, 0, 0, 0, 0],
-        &[10, 0, 4, 0],
-        &[11, 0, 0, 0],
+        &[DOMAIN, 0, 0],
+        &[DOMAIN, 0, 0, 0, 0],
+        &[11, 0, 4, 0],
+        &[12, 0, 0, 0],
         &[u32::MAX, 0, 4, 0],
     ] {
-        assert_eq!(
-            calls::step(operation, &mut registers, &mut memory, &mut track),
-            NO_CALL
-        );
+        let four = &mut registers[..4];
+        let answer = calls::step(operation, four, &mut memory, &mut track);
+        assert_eq!(answer, NO_CALL, "{operation:x?}");
     }
+    for words in [0, 3, 5] {
+        let registers = &mut registers[..words];
+        let answer = calls::start(&memory, &mut track, 0, registers);
+        assert_eq!(answer, NO_CALL, "a start with {words} words");
+        let mode = [MODE, 1, 0, 0];
+        let answer = calls::step(&mode, registers, &mut memory, &mut track);
+        assert_eq!(answer, NO_CALL, "a step with {words} words");
+    }
+    assert_eq!(registers, [0, 0, 0, CLIENTS, 0]);
     assert!(memory == image);
     assert!(track.iter().all(|&word| word == 7));
 }

@@ -3,7 +3,7 @@
 use compare::{cases, keep, Tally};
 use model::chip::{Chip, Held, Plain};
 use model::generate::{self, damaged, operations, PAGES};
-use model::machine::{Answer, Kind, Machine, Operation, Scope, KINDS};
+use model::machine::{field, Answer, Kind, Machine, Operation, Scope, CLIENTS, KINDS};
 use model::random::Random;
 use model::walk::{fault, Entry};
 use std::collections::BTreeSet;
@@ -11,6 +11,10 @@ use std::collections::BTreeSet;
 const CONTEXTS: u32 = 3;
 
 const ACCESSES: [Kind; 3] = [Kind::Read, Kind::Write, Kind::Fetch];
+
+fn op(kind: Kind, a: u32, b: u32, c: u32) -> Operation {
+    Operation { kind, a, b, c }
+}
 
 fn list(random: &mut Random, memory: u32) -> Vec<Operation> {
     let length = 10 + random.below(30);
@@ -59,11 +63,7 @@ fn stopped_by_xn(chip: &Chip, fetch: &Operation) -> Option<By> {
     if fetch.kind != Kind::Fetch {
         return None;
     }
-    let read = Operation {
-        kind: Kind::Read,
-        b: 4,
-        ..*fetch
-    };
+    let read = op(Kind::Read, fetch.a, 4, 0);
     let answers = [fetch, &read].map(|o| chip.clone().step(o));
     matches!(answers, [Answer::Fault(_), Answer::Ok(_)]).then(|| by(chip, fetch))
 }
@@ -77,11 +77,64 @@ fn one_matches_at_most(chip: &Chip) -> bool {
     (0..CONTEXTS).all(|context| PAGES.iter().all(|page| matching(context, *page) <= 1))
 }
 
+/// What was seen of operations that chips carried out, and of others.
+#[derive(Default)]
+struct Seen {
+    answers: Tally<(Kind, Answer)>,
+    /// Aligned accesses, by what translates them.
+    used: Tally<(Kind, By)>,
+    /// Of these such as are mapped, with the field of the entry's domain.
+    fields: Tally<(By, u32)>,
+    /// Fetches that XN stops.
+    stops: Tally<By>,
+}
+
+impl Seen {
+    /// Adds what the machine answered; the chip stands before the operation.
+    fn add(&mut self, chip: &Chip, o: &Operation, answer: Answer) {
+        self.answers.add(match answer {
+            Answer::Ok(_) => (o.kind, Answer::Ok(0)),
+            other => (o.kind, other),
+        });
+        if matches!(answer, Answer::Refused(_)) {
+            return;
+        }
+        if o.is_access() && o.is_aligned() {
+            self.used.add((o.kind, by(chip, o)));
+            if let Ok(entry) = chip.outcome(o.a) {
+                let field = field(chip.plain.registers.domains, entry.domain);
+                self.fields.add((by(chip, o), field));
+            }
+        }
+        if let Some(stopped) = stopped_by_xn(chip, o) {
+            self.stops.add(stopped);
+        }
+    }
+
+    fn must_have(&self) {
+        let by_each = |kind| BY.map(|by| (kind, by));
+        self.used
+            .must_have("accesses, by", ACCESSES.map(by_each).concat());
+        let fields = BY.map(|by| [0, 1, 3].map(|field| (by, field)));
+        self.fields
+            .must_have("fields of domains, by", fields.concat());
+        self.stops.must_have("fetches stopped by XN, by", BY);
+        let carried = KINDS.map(|(kind, _, _)| (kind, Answer::Ok(0)));
+        let stale = ACCESSES.map(|kind| (kind, Answer::Refused(16)));
+        let permission = [fault::PERMISSION_SECTION, fault::PERMISSION_PAGE];
+        let stopped = permission.map(|n| (Kind::Fetch, Answer::Fault(n)));
+        let domain = [fault::DOMAIN_SECTION, fault::DOMAIN_PAGE];
+        let closed = ACCESSES.map(|kind| domain.map(|n| (kind, Answer::Fault(n))));
+        let refused = [15, 17].map(|n| (Kind::Domain, Answer::Refused(n)));
+        let all = carried.into_iter().chain(stale).chain(stopped);
+        self.answers
+            .must_have("chips", all.chain(closed.concat()).chain(refused));
+    }
+}
+
 #[test]
 fn chips_agree_with_the_machine() {
-    let mut seen = Tally::new();
-    let mut used = Tally::new();
-    let mut stops = Tally::new();
+    let mut seen = Seen::default();
     for (case, mut random) in cases(1_200) {
         let image = generate::image(&mut random);
         let operations = list(&mut random, image.len() as u32);
@@ -92,17 +145,8 @@ fn chips_agree_with_the_machine() {
         chip.moves(&mut random, &PAGES);
         for o in &operations {
             let answer = machine.step(o);
-            seen.add(match answer {
-                Answer::Ok(_) => (o.kind, Answer::Ok(0)),
-                other => (o.kind, other),
-            });
+            seen.add(&chip, o, answer);
             if !matches!(answer, Answer::Refused(_)) {
-                if o.is_access() && o.is_aligned() {
-                    used.add((o.kind, by(&chip, o)));
-                }
-                if let Some(stopped) = stopped_by_xn(&chip, o) {
-                    stops.add(stopped);
-                }
                 let (by_plain, by_chip) = (plain.step(o), chip.step(o));
                 if answer != by_plain || answer != by_chip {
                     let what = format!("{o:x?}: {answer:x?}, {by_plain:x?}, {by_chip:x?}");
@@ -121,14 +165,7 @@ fn chips_agree_with_the_machine() {
             }
         }
     }
-    let by_each = |kind| BY.map(|by| (kind, by));
-    used.must_have("accesses, by", ACCESSES.map(by_each).concat());
-    stops.must_have("fetches stopped by XN, by", BY);
-    let carried = KINDS.map(|(kind, _, _)| (kind, Answer::Ok(0)));
-    let stale = ACCESSES.map(|kind| (kind, Answer::Refused(16)));
-    let permission = [fault::PERMISSION_SECTION, fault::PERMISSION_PAGE];
-    let faults = permission.map(|n| (Kind::Fetch, Answer::Fault(n)));
-    seen.must_have("chips", carried.into_iter().chain(stale).chain(faults));
+    seen.must_have();
 }
 
 /// What a TLB of one place can hold for a page at the end, of what matches it in the context that is
@@ -172,6 +209,12 @@ fn is_xn_changed(x: Entry, y: Entry) -> bool {
     x.xn != xn && Entry { xn, ..x } == y
 }
 
+/// Whether two entries differ in the domain alone.
+fn is_domain_changed(x: Entry, y: Entry) -> bool {
+    let domain = y.domain;
+    x.domain != domain && Entry { domain, ..x } == y
+}
+
 /// What makes a page stale: by its sets, and of these such as are easily forgotten.
 #[derive(Clone, Copy, PartialEq, Eq, PartialOrd, Ord, Debug)]
 enum Stale {
@@ -189,11 +232,15 @@ enum Stale {
     XnAlone {
         section: bool,
     },
+    /// Entries that differ from the present one in the domain alone: of a section, or of a page.
+    DomainAlone {
+        section: bool,
+    },
     /// Entries that were all loaded in other contexts.
     LoadedElsewhere,
 }
 
-const STALE: [Stale; 9] = [
+const STALE: [Stale; 11] = [
     Stale::Not,
     Stale::OwnSetAlone,
     Stale::GlobalSetAlone,
@@ -202,6 +249,8 @@ const STALE: [Stale; 9] = [
     Stale::NgAlone,
     Stale::XnAlone { section: false },
     Stale::XnAlone { section: true },
+    Stale::DomainAlone { section: false },
+    Stale::DomainAlone { section: true },
     Stale::LoadedElsewhere,
 ];
 
@@ -214,18 +263,15 @@ fn kinds(others: &[Held], present: Option<Entry>, context: u32) -> Vec<Stale> {
     let all = |differ: fn(Entry, Entry) -> bool| {
         present.is_some_and(|p| others.iter().all(|h| differ(h.entry, p)))
     };
+    let section = present.is_some_and(|p| p.section);
     [
         (Stale::OwnSetAlone, any(false) && !any(true)),
         (Stale::GlobalSetAlone, any(true) && !any(false)),
         (Stale::BothSets, any(true) && any(false)),
         (Stale::SectionAlone, all(is_split)),
         (Stale::NgAlone, all(is_turned)),
-        (
-            Stale::XnAlone {
-                section: present.is_some_and(|p| p.section),
-            },
-            all(is_xn_changed),
-        ),
+        (Stale::XnAlone { section }, all(is_xn_changed)),
+        (Stale::DomainAlone { section }, all(is_domain_changed)),
         (
             Stale::LoadedElsewhere,
             others.iter().all(|h| h.context != context),
@@ -239,7 +285,7 @@ fn kinds(others: &[Held], present: Option<Entry>, context: u32) -> Vec<Stale> {
 #[test]
 fn stale_is_what_a_tlb_can_reach() {
     let mut seen = Tally::new();
-    for (case, mut random) in cases(400) {
+    for (case, mut random) in cases(600) {
         let image = generate::image(&mut random);
         let root = *random.pick(&generate::ROOTS);
         let mut machine = start(&image, root);
@@ -257,12 +303,7 @@ fn stale_is_what_a_tlb_can_reach() {
             others.retain(|held| Some(held.entry) != present);
             let could = !others.is_empty();
             for kind in ACCESSES {
-                let access = Operation {
-                    kind,
-                    a: at,
-                    b: 4,
-                    c: 0,
-                };
+                let access = op(kind, at, 4, 0);
                 let refused = machine.clone().step(&access) == Answer::Refused(16);
                 if could != refused {
                     let what = format!("{access:x?}: a TLB could: {could}, refused: {refused}");
@@ -275,9 +316,8 @@ fn stale_is_what_a_tlb_can_reach() {
                 let what = format!("page {page:#x}: a TLB: {scopes:?}, the sets: {sets:?}");
                 fail(case, &image, &list, &what);
             }
-            for kind in kinds(&others, present, machine.registers.context) {
-                seen.add(kind);
-            }
+            let kinds = kinds(&others, present, machine.registers.context);
+            kinds.into_iter().for_each(|kind| seen.add(kind));
         }
     }
     seen.must_have("pages, stale by", STALE);
@@ -288,7 +328,6 @@ fn stale_is_what_a_tlb_can_reach() {
 /// both. It still does when the old word is back, as a chip may by then hold the other entry.
 #[test]
 fn a_fetch_goes_by_the_xn_of_the_held_entry() {
-    let op = |kind, a, b, c| Operation { kind, a, b, c };
     let (read, fetch) = (op(Kind::Read, 0x1000, 4, 0), op(Kind::Fetch, 0x1000, 0, 0));
     let (word, stopped) = (
         Answer::Ok(0x1234_5678),
@@ -312,6 +351,110 @@ fn a_fetch_goes_by_the_xn_of_the_held_entry() {
             assert_eq!([plain.step(&fetch), chip.step(&fetch)], [by_plain, held]);
             let refused = [read, fetch].map(|o| machine.step(&o));
             assert_eq!(refused, [Answer::Refused(16); 2], "{stored:x}");
+        }
+    }
+}
+
+/// A chip that holds an entry since a start, the plain machine and the checker, given the same
+/// operations.
+struct Three {
+    machine: Machine,
+    plain: Plain,
+    chip: Chip,
+}
+
+impl Three {
+    /// On image A with these words put in, the entry of a page held.
+    fn holding(page: u32, words: &[(usize, u32)]) -> Three {
+        let mut image = generate::image_a();
+        for (at, word) in words {
+            image[*at..*at + 4].copy_from_slice(&word.to_le_bytes());
+        }
+        let mut chip = Chip::new(&image, 0, 1);
+        chip.load(page);
+        assert!(chip.held(page).is_some());
+        Three {
+            machine: start(&image, 0),
+            plain: Plain::new(&image, 0),
+            chip,
+        }
+    }
+
+    /// What the checker, the plain machine and the chip answer.
+    fn step(&mut self, o: Operation) -> [Answer; 3] {
+        [
+            self.machine.step(&o),
+            self.plain.step(&o),
+            self.chip.step(&o),
+        ]
+    }
+}
+
+/// A chip does not remember the domain register: the entry that it holds goes by the register of
+/// the time of the access, as the plain machine does, and the checker refuses nothing. By a page
+/// without rights, and by a section.
+#[test]
+fn a_held_entry_goes_by_the_register_of_the_time_of_the_access() {
+    let value = Answer::Ok(0x1234_5678);
+    for (page, words, by_field) in [
+        (1, [(0x404, 0x3802)], [0xb, 0xf]),
+        (259, [(0x4, 0x2_0002)], [0x9, 0xd]),
+    ] {
+        let [closed, stopped] = by_field.map(Answer::Fault);
+        let mut three = Three::holding(page, &words);
+        for (domains, expected) in [
+            (CLIENTS, stopped),
+            (CLIENTS ^ 1, closed),
+            (CLIENTS ^ 2, value),
+            (0xFFFF_FFFC, closed),
+            (0x3, value),
+            (0x1, stopped),
+        ] {
+            let set = op(Kind::Domain, domains, 0, 0);
+            assert_eq!(three.step(set), [Answer::Ok(0); 3]);
+            for access in [
+                op(Kind::Read, page << 12, 4, 0),
+                op(Kind::Fetch, page << 12, 0, 0),
+                op(Kind::Write, page << 12, 4, 0x1234_5678),
+            ] {
+                let ended = match (access.kind, expected) {
+                    (Kind::Write, Answer::Ok(_)) => Answer::Ok(0),
+                    (_, other) => other,
+                };
+                let found = three.step(access);
+                assert_eq!(found, [ended; 3], "{access:x?}, {domains:#x}");
+            }
+        }
+    }
+}
+
+/// A chip goes by the domain of the entry that it holds, and the plain machine by that of the
+/// tables: once the domain alone has changed they differ where the fields do, and the checker
+/// refuses, with every register.
+#[test]
+fn the_domain_of_the_held_entry_decides() {
+    let value = Answer::Ok(0x1234_5678);
+    // Domain 0 becomes domain 1.
+    for (page, at, word, fault) in [
+        (1, 0x0, 0x421, fault::DOMAIN_PAGE),
+        (259, 0x4, 0x2_0C22, fault::DOMAIN_SECTION),
+    ] {
+        let closed = Answer::Fault(fault);
+        let mut three = Three::holding(page, &[(0x4, 0x2_0C02)]);
+        let store = op(Kind::Write, at, 4, word);
+        assert_eq!(three.step(store), [Answer::Ok(0); 3]);
+        for (domains, by_plain, by_chip) in [
+            (CLIENTS, value, value),
+            (CLIENTS ^ 1, value, closed),
+            (CLIENTS ^ 1 << 2, closed, value),
+            (0, closed, closed),
+            (u32::MAX, value, value),
+        ] {
+            let set = op(Kind::Domain, domains, 0, 0);
+            assert_eq!(three.step(set), [Answer::Ok(0); 3]);
+            let found = three.step(op(Kind::Read, page << 12, 4, 0));
+            let expected = [Answer::Refused(16), by_plain, by_chip];
+            assert_eq!(found, expected, "page {page}, {domains:#x}");
         }
     }
 }

@@ -2,35 +2,44 @@
 use compare::{cases, keep, Tally};
 use model::generate;
 use model::list::report;
+use model::random::Random;
 use model::walk::fault;
+
+/// The report of a generated image and list, which has to be the model's.
+fn compared(case: u64, random: &mut Random) -> String {
+    let image = generate::image_file(random);
+    let memory = image.as_ref().map_or(0, Vec::len) as u32;
+    let list = generate::list(random, memory);
+    let expected = report(image.as_deref(), &list);
+    let found = programs::replay(&list, image.as_deref());
+    if expected.as_bytes() != found {
+        let bytes = image.unwrap_or_default();
+        let files: [(&str, &[u8]); 4] = [
+            ("image.bin", &bytes),
+            ("list", &list),
+            ("expected", expected.as_bytes()),
+            ("found", &found),
+        ];
+        let folder = keep("report", case, &files);
+        panic!("the reports differ; they are in {}", folder.display());
+    }
+    expected
+}
 
 #[test]
 fn reports() {
     let mut seen = Tally::new();
     let mut fetches = Tally::new();
+    let mut domains = Tally::new();
     for (case, mut random) in cases(400) {
-        let image = generate::image_file(&mut random);
-        let memory = image.as_ref().map_or(0, Vec::len) as u32;
-        let list = generate::list(&mut random, memory);
-        let expected = report(image.as_deref(), &list);
-        let found = programs::replay(&list, image.as_deref());
-        if expected.as_bytes() != found {
-            let bytes = image.unwrap_or_default();
-            let files: [(&str, &[u8]); 4] = [
-                ("image.bin", &bytes),
-                ("list", &list),
-                ("expected", expected.as_bytes()),
-                ("found", &found),
-            ];
-            let folder = keep("report", case, &files);
-            panic!("the reports differ; they are in {}", folder.display());
-        }
-        for line in expected.lines().skip(1) {
+        for line in compared(case, &mut random).lines().skip(1) {
             let fields: Vec<&str> = line.split(',').collect();
             let number = if fields[2] == "ok" { "" } else { fields[3] };
             let answer = (fields[2].to_string(), number.to_string());
-            if fields[1] == "fetch" {
-                fetches.add(answer.clone());
+            match fields[1] {
+                "fetch" => fetches.add(answer.clone()),
+                "domain" => domains.add(answer.clone()),
+                _ => (),
             }
             seen.add(answer);
         }
@@ -38,11 +47,13 @@ fn reports() {
     let named = |word: &str, n: u32| (word.to_string(), format!("{n:x}"));
     let faults = fault::OF_WALKS.into_iter().chain(fault::OF_ACCESSES);
     let faults: Vec<(String, String)> = faults.map(|n| named("fault", n)).collect();
-    let refusals = (1..=16).filter(|n| *n != 14).map(|n| named("refused", n));
+    let refusals = (1..=17).filter(|n| *n != 14).map(|n| named("refused", n));
     seen.must_have("reports", faults.iter().cloned().chain(refusals));
     let ok = ("ok".to_string(), String::new());
-    let others = [ok, named("refused", 8), named("refused", 16)];
+    let others = [ok.clone(), named("refused", 8), named("refused", 16)];
     fetches.must_have("fetches", faults.into_iter().chain(others));
+    let set = [ok, named("refused", 15), named("refused", 17)];
+    domains.must_have("domain", set);
 }
 
 /// What the program prints behind its header, which has to be what the model says.
@@ -374,6 +385,119 @@ fn xn_set_and_cleared() {
             "7,fetch,ok,11223344",
         ];
         assert_eq!(found, expected, "{old:x}");
+    }
+}
+
+/// Page 1 in domain 3 and a section in domain 12, both at 0x4000, with AP 0 and the section with
+/// XN: what their fields allow, one opened and one as it was, then both closed. A register with a
+/// field of 2 is refused, by 17 in either mode, and any other in user mode by 15.
+#[test]
+fn domains_opened_and_closed() {
+    let first = [(0x0, 0x461), (0x4, 0x2_0192), (0x400, 0x832)];
+    let image = image(&[&first[..], &[(0x404, 0x4802), (0x4000, 0x1122_3344)]].concat());
+    let found = lines(
+        &image,
+        "read,1000,4,0\nread,104000,4,0\ndomain,555555d5,0,0\nread,1000,4,0\n\
+         write,1000,4,5566\nread,104000,4,0\ndomain,57555555,0,0\nfetch,104000,0,0\n\
+         read,1000,4,0\ndomain,54555515,0,0\nread,1000,4,0\nfetch,104000,0,0\nmode,1,0,0\n\
+         domain,55555555,0,0\ndomain,55555556,0,0\nwrite,1000,4,0\nmode,0,0,0\n\
+         domain,95555555,0,0\nread,0,4,0\ndomain,55555555,0,0\nread,0,4,0\n",
+    );
+    let expected = [
+        "2,read,fault,f",
+        "3,read,fault,d",
+        "4,domain,ok,0",
+        "5,read,ok,11223344",
+        "6,write,ok,0",
+        "7,read,fault,d",
+        "8,domain,ok,0",
+        "9,fetch,ok,5566",
+        "a,read,fault,f",
+        "b,domain,ok,0",
+        "c,read,fault,b",
+        "d,fetch,fault,9",
+        "e,mode,ok,0",
+        "f,domain,refused,f",
+        "10,domain,refused,11",
+        "11,write,fault,b",
+        "12,mode,ok,0",
+        "13,domain,refused,11",
+        "14,read,fault,b",
+        "15,domain,ok,0",
+        "16,read,ok,461",
+    ];
+    assert_eq!(found, expected);
+}
+
+/// The domain alone is changed, in context 0, by the word of a section or by that which points to
+/// the table of a page: stale for reads and fetches alike in the context that noted the old entry,
+/// until a flush, and in no other; closing and opening domains changes nothing about that. What
+/// follows the flush goes by the field of the new domain.
+#[test]
+fn the_domain_alone_changed() {
+    for (mapping, at, new, fault) in [
+        (&MAPPINGS[0], 0x0, 0x421, "b"),
+        (&MAPPINGS[1], 0x0, 0x421, "b"),
+        (&MAPPINGS[2], 0x4, 0x2_0C22, "9"),
+    ] {
+        let [open, _] = mapping.addresses;
+        let found = lines(
+            &mapping.image(),
+            &format!(
+                "write,{at:x},4,{new:x}\nread,{open:x},4,0\ndomain,0,0,0\nfetch,{open:x},0,0\n\
+                 domain,ffffffff,0,0\nfetch,{open:x},0,0\nread,{:x},2,0\nasid,1,0,0\n\
+                 read,{open:x},4,0\nasid,0,0,0\nread,{open:x},4,0\nctx,0,0,0\n\
+                 domain,55555554,0,0\nread,{open:x},4,0\ndomain,55555551,0,0\n\
+                 read,{open:x},4,0\n",
+                open + 1
+            ),
+        );
+        let expected = [
+            "2,write,ok,0".to_string(),
+            "3,read,refused,10".to_string(),
+            "4,domain,ok,0".to_string(),
+            "5,fetch,refused,10".to_string(),
+            "6,domain,ok,0".to_string(),
+            "7,fetch,refused,10".to_string(),
+            "8,read,fault,1".to_string(),
+            "9,asid,ok,0".to_string(),
+            "a,read,ok,11223344".to_string(),
+            "b,asid,ok,0".to_string(),
+            "c,read,refused,10".to_string(),
+            "d,ctx,ok,0".to_string(),
+            "e,domain,ok,0".to_string(),
+            "f,read,ok,11223344".to_string(),
+            "10,domain,ok,0".to_string(),
+            format!("11,read,fault,{fault}"),
+        ];
+        assert_eq!(found, expected, "{open:x}");
+    }
+}
+
+/// A pointer's domain is changed by a store of one byte: of its low byte, or of the next one, which
+/// has the highest bit. All pages of its table are stale, those of other tables are not.
+#[test]
+fn a_pointers_domain_changed_by_a_byte() {
+    let pages = [(0x400, 0x832), (0x7FC, 0x3832), (0x800, 0x832)];
+    let image = image(&[&[(0x0, 0x401), (0x4, 0x801)], &pages[..]].concat());
+    for store in ["write,0,1,21", "write,1,1,5"] {
+        let found = lines(
+            &image,
+            &format!(
+                "{store}\nread,0,1,0\nread,ff000,4,0\nread,fe000,4,0\nread,100004,4,0\n\
+                 all,0,0,0\nread,ff000,4,0\n"
+            ),
+        );
+        let expected = [
+            "2,write,ok,0",
+            "3,read,refused,10",
+            "4,read,refused,10",
+            "5,read,fault,7",
+            "6,read,ok,801",
+            "7,all,ok,0",
+            "8,read,ok,0",
+        ];
+        assert_eq!(found, expected, "{store}");
     }
 }
 

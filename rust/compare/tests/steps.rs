@@ -1,14 +1,19 @@
 //! Start and single steps through the C functions against the model, on lent states of every kind:
 //! answers, registers, memory and track compared whole.
 use compare::{cases, keep, Tally};
-use model::generate::{self, damaged, operation, operations, PAGES};
-use model::machine::{Answer, Kind, Machine, Operation, Registers};
+use model::generate::{self, damaged, operation, operations, with_field, with_reserved, PAGES};
+use model::machine::{field, reserved, Answer, Kind, Machine, Operation, Registers, CLIENTS};
 use model::random::Random;
 use model::walk::{fault, walk, word, Entry, Fault};
 
 /// The bits of an entry of a section, and of one with XN set.
 const SECTION: u64 = 1 << 8;
 const XN: u64 = 1 << 6;
+
+/// The domain of an entry, by its track word.
+fn domain(entry: u64) -> u32 {
+    (entry >> 2 & 0xF) as u32
+}
 
 fn number(answer: Answer) -> u64 {
     match answer {
@@ -37,23 +42,68 @@ fn spoil(random: &mut Random, track: &mut [u32]) {
         _ => random.below(rows as u64) as usize,
     };
     let at = row(random) * 1024 + page;
-    track[at] = match random.below(14) {
+    track[at] = match random.below(19) {
         0 => random.word(),
         1 => 1,
-        2 => random.word() & 0xFFFF_FFC0 | 2,
+        // For one entry, if bit 7 suits the row.
+        2 => random.word() & !3 | 2,
         3 => *random.pick(&[3, 7, 0x80, 0x81, 0x83, 0xC2, 0x100, 0x106, 0x182, u32::MAX]),
-        4 => *random.pick(&[0x40, 0x41, 0x42, 0x43, 0x46, 0xC6, 0x142, 0x1C2]),
+        4 => *random.pick(&[0x40, 0x41, 0x42, 0x43, 0x3C, 0x3D, 0x3E, 0x3F, 0x142, 0x1C2]),
         // Of a page in place of a section, or the other way round.
         5 => track[at] ^ 0x100,
         // Of the other kind of row.
         6 => track[at] ^ 0x80,
         // With XN the other way.
         7 => track[at] ^ 0x40,
-        // With a bit that no entry has.
-        8..=9 => track[at] ^ 4 << random.below(4),
-        10..=12 => track[row(random) * 1024 + page],
+        // Of another domain.
+        8..=12 => track[at] ^ 4 << random.below(4),
+        // With a bit that no entry has, or without one that each has.
+        13..=14 => track[at] ^ *random.pick(&[1, 2]),
+        15..=17 => track[row(random) * 1024 + page],
         _ => 0,
     };
+}
+
+/// Registers in range, on a machine with this many contexts; the root more often than not this one.
+fn registers(random: &mut Random, contexts: u32, root: u32) -> Registers {
+    let domains = if random.one_in(3) {
+        generate::any_domains(random)
+    } else {
+        generate::domains(random)
+    };
+    Registers {
+        root: match random.below(2) {
+            0 => root,
+            _ => *random.pick(&generate::ROOTS),
+        },
+        context: random.below(u64::from(contexts)) as u32,
+        mode: u32::from(random.one_in(4)),
+        domains,
+    }
+}
+
+/// Gives a state a wrong length or a register out of range, now and then.
+fn damage(random: &mut Random, lent: &mut Lent) {
+    let contexts = lent.contexts();
+    let Lent {
+        memory,
+        track,
+        registers,
+    } = lent;
+    match random.below(28) {
+        0 => registers.root = random.word(),
+        // The number of contexts, which is that of the global row, or the number of rows.
+        1 => registers.context = contexts + random.below(2) as u32,
+        2 => registers.mode = 2 + random.word() % 3,
+        3 => memory.truncate(memory.len() - 1 - random.below(4000) as usize),
+        4 => track.truncate(track.len() - 1 - random.below(1000) as usize),
+        5 => track.truncate(*random.pick(&[0, 1024])),
+        6 => registers.root = memory.len() as u32,
+        7 => track.resize(258 * 1024, 0),
+        8 => registers.domains = with_reserved(random, registers.domains),
+        9 => registers.domains = random.word(),
+        _ => (),
+    }
 }
 
 fn lent(random: &mut Random) -> Lent {
@@ -68,32 +118,18 @@ fn lent(random: &mut Random) -> Lent {
     for o in operations(random, contexts as u32, image.len() as u32, before) {
         machine.step(&o);
     }
-    let (mut memory, mut track) = (machine.memory.clone(), machine.track());
-    for _ in 0..random.below(60) {
+    let mut track = machine.track();
+    let most = *random.pick(&[12, 60]);
+    for _ in 0..random.below(most) {
         spoil(random, &mut track);
     }
-    let mut registers = Registers {
-        root: *random.pick(&generate::ROOTS),
-        context: random.below(contexts as u64) as u32,
-        mode: u32::from(random.one_in(4)),
-    };
-    match random.below(24) {
-        0 => registers.root = random.word(),
-        // The number of contexts, which is that of the global row, or the number of rows.
-        1 => registers.context = contexts as u32 + random.below(2) as u32,
-        2 => registers.mode = 2 + random.word() % 3,
-        3 => memory.truncate(memory.len() - 1 - random.below(4000) as usize),
-        4 => track.truncate(track.len() - 1 - random.below(1000) as usize),
-        5 => track.truncate(*random.pick(&[0, 1024])),
-        6 => registers.root = memory.len() as u32,
-        7 => track.resize(258 * 1024, 0),
-        _ => (),
-    }
-    Lent {
-        memory,
+    let mut lent = Lent {
+        memory: machine.memory.clone(),
         track,
-        registers,
-    }
+        registers: registers(random, contexts as u32, machine.registers.root),
+    };
+    damage(random, &mut lent);
+    lent
 }
 
 impl Lent {
@@ -158,8 +194,8 @@ enum Wrong {
     OwnEntry,
 }
 
-fn words(r: Registers) -> [u32; 3] {
-    [r.root, r.context, r.mode]
+fn words(r: Registers) -> [u32; 4] {
+    [r.root, r.context, r.mode, r.domains]
 }
 
 fn operation_words(o: &Operation) -> [u32; 4] {
@@ -168,7 +204,7 @@ fn operation_words(o: &Operation) -> [u32; 4] {
 
 /// What a step by the C function answers, and the registers, the memory and the track that it
 /// leaves.
-type Left = (u64, [u32; 3], Vec<u8>, Vec<u32>);
+type Left = (u64, [u32; 4], Vec<u8>, Vec<u32>);
 
 /// The step of a lent state by the C function.
 fn stepped(lent: &Lent, operation: [u32; 4]) -> Left {
@@ -201,7 +237,8 @@ fn compare(case: u64, lent: &Lent, o: &Operation) -> Answer {
     expected
 }
 
-/// What steps were tried at the edges of the rules about rows and their words.
+/// What steps were tried at the edges of the rules about rows and their words, and about domain
+/// registers.
 #[derive(Default)]
 struct Edges {
     /// The rows of a track, if they are whole, and whether the step gave 13.
@@ -213,6 +250,9 @@ struct Edges {
     wrong: Tally<Wrong>,
     /// Aligned accesses refused for a word that differs from the right one in one bit.
     bits: Tally<u32>,
+    /// Steps refused for one field that is 2 and nothing else: 14 and the register's, or 17 and the
+    /// operation's, with its domain.
+    fields: Tally<(u32, u32)>,
 }
 
 impl Edges {
@@ -226,7 +266,15 @@ impl Edges {
             Answer::Refused(14) => {
                 let over = lent.registers.context.wrapping_sub(lent.contexts());
                 self.contexts.add((14, over.min(2)));
+                let rest = Registers {
+                    domains: CLIENTS,
+                    ..lent.registers
+                };
+                if rest.in_range(lent.contexts()) {
+                    self.add_field(14, lent.registers.domains);
+                }
             }
+            Answer::Refused(17) => self.add_field(17, o.a),
             Answer::Refused(11) => {
                 let over = named.wrapping_sub(lent.contexts());
                 self.contexts.add((11, over.min(2)));
@@ -243,6 +291,13 @@ impl Edges {
         }
     }
 
+    /// Adds a refusal for a domain register, if one field of it is 2.
+    fn add_field(&mut self, number: u32, domains: u32) {
+        if let [domain] = reserved(domains)[..] {
+            self.fields.add((number, domain));
+        }
+    }
+
     fn must_have(&self) {
         let refused = [Some(0), Some(1), Some(258), None].map(|rows| (rows, true));
         let fit = [Some(2), Some(9), Some(257)].map(|rows| (rows, false));
@@ -254,19 +309,101 @@ impl Edges {
         let wrong = [Wrong::GlobalEntry, Wrong::OwnEntry];
         self.wrong
             .must_have("words in a row of the other kind", wrong);
-        // XN, where a section maps it, and the bits that no entry has.
-        self.bits
-            .must_have("words that differ in one bit", [6, 8, 2, 3, 4, 5]);
+        // The bits that words for one entry have alike in a row, the domain, XN, and whether a
+        // section maps it.
+        self.bits.must_have("words that differ in one bit", 0..=8);
+        let fields = [(14, 0), (14, 15), (17, 0), (17, 15)];
+        self.fields.must_have("fields that are 2", fields);
+    }
+}
+
+/// Pairs of checks that often fail at once, in the order of the rules.
+const PAIRS: [(u32, u32); 11] = [
+    (13, 14),
+    (13, 7),
+    (13, 17),
+    (14, 8),
+    (14, 17),
+    (7, 8),
+    (8, 9),
+    (8, 15),
+    (10, 15),
+    (11, 15),
+    (17, 15),
+];
+
+/// What steps answered.
+#[derive(Default)]
+struct Answers {
+    all: Tally<Answer>,
+    /// Of fetches, in any mode and in this one.
+    fetches: Tally<(Option<u32>, Answer)>,
+    /// Of `domain`, in this mode.
+    domains: Tally<(u32, Answer)>,
+    /// Two checks that both fail.
+    pairs: Tally<(u32, u32)>,
+}
+
+impl Answers {
+    /// Adds what an operation answers on a machine.
+    fn add(&mut self, machine: &Machine, o: &Operation, answer: Answer) {
+        let kept = match answer {
+            Answer::Ok(_) => Answer::Ok(0),
+            other => other,
+        };
+        self.all.add(kept);
+        let mode = machine.registers.mode;
+        match o.kind {
+            Kind::Fetch => {
+                self.fetches.add((None, kept));
+                self.fetches.add((Some(mode), kept));
+            }
+            Kind::Domain => self.domains.add((mode, kept)),
+            _ => (),
+        }
+        let failing = machine.conditions(o);
+        for (i, first) in failing.iter().enumerate() {
+            for second in &failing[i + 1..] {
+                self.pairs.add((*first, *second));
+            }
+        }
+    }
+
+    fn must_have(&self) {
+        let faults = || {
+            let faults = fault::OF_WALKS.into_iter().chain(fault::OF_ACCESSES);
+            faults.map(Answer::Fault)
+        };
+        let refusals = (7..=17).map(Answer::Refused);
+        self.all.must_have("steps", faults().chain(refusals));
+        self.pairs
+            .must_have("pairs of checks failing at once", PAIRS);
+        let refused = [13, 14, 8, 16].map(Answer::Refused);
+        let each = faults().chain(refused).map(|answer| (None, answer));
+        let stopped = [fault::ALIGNMENT, fault::DOMAIN_PAGE, fault::PERMISSION_PAGE];
+        let in_mode = |mode| {
+            let ended = [Answer::Ok(0)]
+                .into_iter()
+                .chain(stopped.map(Answer::Fault));
+            ended.chain(refused).map(move |answer| (Some(mode), answer))
+        };
+        let fetched = each.chain(in_mode(0)).chain(in_mode(1));
+        self.fetches.must_have("fetches, by mode", fetched);
+        let kernel = [Answer::Ok(0), Answer::Refused(14), Answer::Refused(17)];
+        let user = [14, 15, 17].map(Answer::Refused);
+        let set = kernel
+            .map(|a| (0, a))
+            .into_iter()
+            .chain(user.map(|a| (1, a)));
+        self.domains.must_have("domain, by mode", set);
     }
 }
 
 #[test]
 fn single_steps_on_lent_states() {
-    let mut seen = Tally::new();
-    let mut pairs = Tally::new();
+    let mut answers = Answers::default();
     let mut edges = Edges::default();
-    let mut fetches = Tally::new();
-    for (case, mut random) in cases(1_500) {
+    for (case, mut random) in cases(2_000) {
         let lent = lent(&mut random);
         let machine = lent.machine();
         let contexts = lent.contexts().max(1);
@@ -278,75 +415,58 @@ fn single_steps_on_lent_states() {
             }
             let answer = compare(case, &lent, &o);
             edges.add(&lent, &o, answer);
-            let kept = match answer {
-                Answer::Ok(_) => Answer::Ok(0),
-                other => other,
-            };
-            seen.add(kept);
-            if o.kind == Kind::Fetch {
-                fetches.add((None, kept));
-                fetches.add((Some(lent.registers.mode), kept));
-            }
-            let failing = machine.conditions(&o);
-            for (i, first) in failing.iter().enumerate() {
-                for second in &failing[i + 1..] {
-                    pairs.add((*first, *second));
-                }
-            }
+            answers.add(&machine, &o, answer);
         }
     }
-    let faults = fault::OF_WALKS.into_iter().chain(fault::OF_ACCESSES);
-    let refusals = (7..=16).map(Answer::Refused);
-    seen.must_have("steps", faults.map(Answer::Fault).chain(refusals));
-    let common = [
-        (13, 14),
-        (13, 7),
-        (14, 8),
-        (7, 8),
-        (8, 9),
-        (8, 15),
-        (10, 15),
-        (11, 15),
-    ];
-    pairs.must_have("pairs of checks failing at once", common);
+    answers.must_have();
     edges.must_have();
-    let faults = fault::OF_WALKS.into_iter().chain(fault::OF_ACCESSES);
-    let refused = [13, 14, 8, 16].map(Answer::Refused);
-    let answers = faults.map(Answer::Fault).chain(refused);
-    let each = answers.map(|answer| (None, answer));
-    let stopped = [fault::ALIGNMENT, fault::PERMISSION_PAGE].map(Answer::Fault);
-    let in_mode = |mode| {
-        let answers = [Answer::Ok(0)].into_iter().chain(stopped).chain(refused);
-        answers.map(move |answer| (Some(mode), answer))
+}
+
+fn faulted(n: u32) -> u64 {
+    number(Answer::Fault(n))
+}
+
+/// A fault by whether a section maps the page.
+fn by_section(entry: u64, section: u32, page: u32) -> u64 {
+    faulted(if entry & SECTION == 0 { page } else { section })
+}
+
+/// An address: mostly an aligned one of a page that lists touch, and more often than not of one
+/// behind the first MiB, which sections may map.
+fn address(random: &mut Random) -> u32 {
+    let pages = if random.one_in(2) {
+        &PAGES[..]
+    } else {
+        &PAGES[7..]
     };
-    let fetched = each.chain(in_mode(0)).chain(in_mode(1));
-    fetches.must_have("fetches, by mode", fetched);
+    let page = *random.pick(pages);
+    match random.below(8) {
+        0 => random.word(),
+        1 => page << 12 | (random.word() & 0xFFF),
+        _ => page << 12 | (random.word() & 0xFFC),
+    }
 }
 
 /// A fetch leaves what a read of four bytes leaves, and answers the same unless the page's entry has
-/// XN set: then an aligned one that is not refused is a permission fault. The single walk tells XN
-/// and whether it is a section's, so this holds of the code by itself.
+/// XN set and the field of its domain is 1: then an aligned one that is not refused is a permission
+/// fault. The single walk tells XN, the domain and whether it is a section's, so this holds of the
+/// code by itself.
 #[test]
 fn a_fetch_is_a_read_but_for_xn() {
-    let faulted = |n: u32| number(Answer::Fault(n));
     let mut seen = Tally::new();
-    for (case, mut random) in cases(800) {
+    for (case, mut random) in cases(1_200) {
         let lent = lent(&mut random);
         for _ in 0..6 {
-            let page = *random.pick(&PAGES);
-            let at = match random.below(8) {
-                0 => random.word(),
-                1 => page << 12 | (random.word() & 0xFFF),
-                _ => page << 12 | (random.word() & 0xFFC),
-            };
+            let at = address(&mut random);
             let (read, registers, memory, track) = stepped(&lent, [Kind::Read as u32, at, 4, 0]);
             let entry = calls::walk(&lent.memory, lent.registers.root, at);
-            let refused = read >> 32 == 2;
-            let stopped = entry & XN != 0 && !refused && read != faulted(fault::ALIGNMENT);
-            let answer = match (stopped, entry & SECTION) {
-                (false, _) => read,
-                (true, 0) => faulted(fault::PERMISSION_PAGE),
-                (true, _) => faulted(fault::PERMISSION_SECTION),
+            let looks = field(lent.registers.domains, domain(entry)) == 1;
+            let carried_out = read >> 32 != 2 && read != faulted(fault::ALIGNMENT);
+            let stopped = entry & XN != 0 && looks && carried_out;
+            let answer = if stopped {
+                by_section(entry, fault::PERMISSION_SECTION, fault::PERMISSION_PAGE)
+            } else {
+                read
             };
             let unused = [random.word(), random.word()];
             let fetch = stepped(&lent, [Kind::Fetch as u32, at, unused[0], unused[1]]);
@@ -366,6 +486,71 @@ fn a_fetch_is_a_read_but_for_xn() {
     );
 }
 
+/// Whether an access with this answer was translated: it was not refused, and met no fault of
+/// alignment or of the walk.
+fn is_translated(answer: u64) -> bool {
+    let mut before = fault::OF_WALKS.into_iter().chain([fault::ALIGNMENT]);
+    answer >> 32 != 2 && before.all(|n| answer != faulted(n))
+}
+
+/// Whether the field of an entry's domain did what it has to, by what an access left with the
+/// fields 0, 1 and 3: with 0 one that is translated is a domain fault, with 3 one that permission
+/// stopped goes on to the bytes, and else all are alike.
+fn field_decides(lent: &Lent, entry: u64, [closed, client, manager]: &[Left; 3]) -> bool {
+    let (answer, _, memory, track) = client;
+    let stopped = by_section(entry, fault::PERMISSION_SECTION, fault::PERMISSION_PAGE);
+    let by_closed = if is_translated(*answer) {
+        closed.0 == by_section(entry, fault::DOMAIN_SECTION, fault::DOMAIN_PAGE)
+    } else {
+        (closed.0, &closed.3) == (*answer, track)
+    };
+    let by_manager = if *answer == stopped {
+        manager.0 >> 32 == 0 || manager.0 == faulted(fault::ACCESS_OUTSIDE)
+    } else {
+        (manager.0, &manager.2, &manager.3) == (*answer, memory, track)
+    };
+    by_closed && by_manager && closed.2 == lent.memory
+}
+
+/// An access goes by the field of its entry's domain and by no other field. The single walk tells
+/// the domain and whether it is a section's, so this holds of the code by itself.
+#[test]
+fn an_access_goes_by_the_field_of_its_domain() {
+    let mut translated = Tally::new();
+    let mut stopped = Tally::new();
+    let kinds = [Kind::Read, Kind::Write, Kind::Fetch];
+    for (case, mut random) in cases(1_200) {
+        let mut lent = lent(&mut random);
+        for _ in 0..6 {
+            let (kind, at) = (*random.pick(&kinds), address(&mut random));
+            let access = [kind as u32, at, 4, random.word()];
+            let entry = calls::walk(&lent.memory, lent.registers.root, at);
+            let left = [0, 1, 3].map(|field| {
+                // The other fields differ from one access to the next.
+                let others = generate::any_domains(&mut random);
+                lent.registers.domains = with_field(others, domain(entry), field);
+                stepped(&lent, access)
+            });
+            let answers = [0, 1, 2].map(|i: usize| left[i].0);
+            if !field_decides(&lent, entry, &left) {
+                let what = format!("{access:x?}: {answers:x?}, the walk {entry:#x}");
+                fail("field", case, &lent, &what);
+            }
+            let (section, mode) = (entry & SECTION != 0, lent.registers.mode);
+            if is_translated(answers[1]) {
+                translated.add((kind, section, mode));
+            }
+            if answers[1] != answers[2] {
+                stopped.add((section, mode));
+            }
+        }
+    }
+    let each = [(false, 0), (false, 1), (true, 0), (true, 1)];
+    let by = |kind| each.map(|(section, mode)| (kind, section, mode));
+    translated.must_have("translated, by section, mode", kinds.map(by).concat());
+    stopped.must_have("stopped with field 1 alone, by section, mode", each);
+}
+
 #[test]
 fn starts_on_lent_states() {
     let mut seen = Tally::new();
@@ -376,7 +561,7 @@ fn starts_on_lent_states() {
             _ => *random.pick(&generate::ROOTS),
         };
         let (expected, machine) = Machine::start(&memory, &track, root);
-        let (mut registers, mut left) = ([7; 3], track.clone());
+        let (mut registers, mut left) = ([7; 4], track.clone());
         let found = calls::start(&memory, &mut left, root, &mut registers);
         let same = found == number(expected)
             && registers == words(machine.registers)

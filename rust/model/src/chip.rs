@@ -12,13 +12,9 @@ pub struct Plain {
 
 impl Plain {
     pub fn new(image: &[u8], root: u32) -> Plain {
-        let registers = Registers {
-            root,
-            ..Registers::default()
-        };
         Plain {
             memory: image.to_vec(),
-            registers,
+            registers: Registers::started(root),
         }
     }
 
@@ -120,11 +116,16 @@ impl Chip {
         }
     }
 
-    /// An operation that was not refused: a held entry comes before the tables.
+    /// What an aligned access goes by: a held entry comes before the tables.
+    pub fn outcome(&self, address: u32) -> Result<Entry, Fault> {
+        let held = self.held(address >> 12);
+        held.map_or_else(|| self.plain.outcome(address), |held| Ok(held.entry))
+    }
+
+    /// An operation that was not refused.
     pub fn step(&mut self, operation: &Operation) -> Answer {
         let outcome = if operation.is_access() {
-            let held = self.held(operation.a >> 12);
-            held.map_or_else(|| self.plain.outcome(operation.a), |held| Ok(held.entry))
+            self.outcome(operation.a)
         } else {
             NOT_TRANSLATED
         };

@@ -1,6 +1,7 @@
 //! Images and lists on which maps change often: stores to descriptors, pages that turn from own to
-//! global and back, XN set and cleared, roots and contexts switched, flushes of each kind.
-use crate::machine::{Kind, Operation, KINDS};
+//! global and back, XN set and cleared, domains changed, opened and closed, roots and contexts
+//! switched, flushes of each kind.
+use crate::machine::{Kind, Operation, CLIENTS, KINDS};
 use crate::random::Random;
 
 /// Image A of the rules: 32,768 bytes, zero but for five words.
@@ -33,7 +34,10 @@ const XN_SECTION: u32 = 1 << 4;
 const XN_LARGE: u32 = 1 << 15;
 const XN_SMALL: u32 = 1;
 
-/// A section at 0, AP 3, which is global and may be fetched from.
+/// The domain of a level-one word.
+const DOMAIN: u32 = 0xF << 5;
+
+/// A section at 0, AP 3, in domain 0, which is global and may be fetched from.
 const SECTION: u32 = 0xC02;
 
 /// A table of generated images that maps a MiB as such sections do, page by page: its even pages are
@@ -43,15 +47,68 @@ const EQUAL_PAGES: u32 = 0x1C00;
 /// The pages that generated lists touch.
 pub const PAGES: [u32; 12] = [0, 1, 2, 3, 4, 16, 17, 256, 257, 300, 512, 1023];
 
+/// A domain: mostly one of a few, so that what descriptors use is what registers open and close.
+fn domain(random: &mut Random) -> u32 {
+    match random.below(8) {
+        0 => random.below(16) as u32,
+        _ => *random.pick(&[0, 0, 1, 8, 15]),
+    }
+}
+
+/// A level-one word in another domain.
+fn in_domain(word: u32, domain: u32) -> u32 {
+    word & !DOMAIN | domain << 5
+}
+
+/// A domain register with another field for a domain.
+pub fn with_field(domains: u32, domain: u32, field: u32) -> u32 {
+    domains & !(3 << (2 * domain)) | field << (2 * domain)
+}
+
+/// A domain register that is in range: 0, 1 or 3 in each field.
+pub fn any_domains(random: &mut Random) -> u32 {
+    (0..16).fold(0, |domains, domain| {
+        with_field(domains, domain, *random.pick(&[0, 1, 3]))
+    })
+}
+
+/// A domain register that is in range: mostly 1 in all fields but three at most.
+pub fn domains(random: &mut Random) -> u32 {
+    if random.one_in(8) {
+        return any_domains(random);
+    }
+    (0..random.below(4)).fold(CLIENTS, |domains, _| {
+        with_field(domains, domain(random), *random.pick(&[0, 3, 3]))
+    })
+}
+
+/// A domain register with a field that is 2: the first, the last or another.
+pub fn with_reserved(random: &mut Random, domains: u32) -> u32 {
+    let domain = match random.below(3) {
+        0 => 0,
+        1 => 15,
+        _ => random.below(16) as u32,
+    };
+    with_field(domains, domain, 2)
+}
+
 /// A level-one word that maps a MiB to the frames at 0 with AP 3: a section, own or global, with XN
-/// clear or set, or the table of equal pages.
+/// clear or set, or the table of equal pages. Mostly in domain 0.
 fn mib(random: &mut Random) -> u32 {
     let xn = if random.one_in(3) { XN_SECTION } else { 0 };
-    match random.below(3) {
+    let word = match random.below(3) {
         0 => SECTION | NG_SECTION | xn,
         1 => SECTION | xn,
         _ => EQUAL_PAGES | 1,
-    }
+    };
+    let domain = if random.one_in(3) { domain(random) } else { 0 };
+    in_domain(word, domain)
+}
+
+/// The level-one word of a root's first MiB, in domain 0: it points to the table whose first pages
+/// are the tables.
+fn pointer(root: u32) -> u32 {
+    0x401 | (root & 0x80) << 5
 }
 
 /// A level-one word: mostly one that maps something, now and then by a table behind all memory.
@@ -61,10 +118,11 @@ fn first(random: &mut Random) -> u32 {
     } else {
         0x400 * (1 + random.below(u64::from(TABLES / 0x400) - 1)) as u32
     };
-    match random.below(8) {
-        0..=4 => table | 1 | (random.word() & 0x3FC),
-        5 => (random.word() & 0x000F_FFFF & !0x4_0000) | 2,
-        6 => random.word(),
+    let (any, domain) = (random.word(), domain(random));
+    match random.below(9) {
+        0..=4 => in_domain(table | 1 | (any & 0x3FC), domain),
+        5..=6 => in_domain((any & 0x000F_FFFF & !0x4_0000) | 2, domain),
+        7 => any,
         _ => 0,
     }
 }
@@ -105,9 +163,15 @@ pub fn image(random: &mut Random) -> Vec<u8> {
     for at in (0x400..TABLES).step_by(4) {
         put(at, second(random, memory));
     }
-    // The first MiB of every root that lists use has a table whose first pages are the tables.
+    // The first MiB of every root that lists use has the same domain more often than not.
+    let shared = domain(random);
     for root in ROOTS {
-        put(root, 0x401 | (root & 0x80) << 5);
+        let own = if random.one_in(4) {
+            domain(random)
+        } else {
+            shared
+        };
+        put(root, in_domain(pointer(root), own));
     }
     for table in [0x400, 0x400 + 0x1000] {
         put(table, 0x032 | random.word() & (NG_PAGE | XN_SMALL));
@@ -141,7 +205,7 @@ pub fn operation(random: &mut Random, contexts: u32, memory: u32) -> Operation {
     let context = random.below(u64::from(contexts)) as u32;
     let size = *random.pick(&[1, 2, 4, 4, 4, 4]);
     let aligned = at / size * size;
-    match random.below(30) {
+    match random.below(33) {
         0..=4 => op(Kind::Read, aligned, size, 0),
         5 => op(Kind::Read, at, size, 0),
         6..=7 => {
@@ -159,8 +223,10 @@ pub fn operation(random: &mut Random, contexts: u32, memory: u32) -> Operation {
         20..=23 => op(Kind::Fetch, at & !3, 0, 0),
         24 => op(Kind::Fetch, at, 0, 0),
         25 => xn_store(random),
+        26 => domain_store(random),
+        27..=28 => op(Kind::Domain, domains(random), 0, 0),
         // Splits a section into equal pages or joins them, turns a section's pages, or changes their
-        // XN.
+        // XN or their domain.
         _ => {
             let at = *random.pick(&ROOTS) + *random.pick(&[4, 4, 8, 0xC]);
             op(Kind::Write, at, 4, mib(random))
@@ -186,6 +252,21 @@ fn xn_store(random: &mut Random) -> Operation {
     op(Kind::Write, at, 1, byte)
 }
 
+/// A store of one byte that may change the domain alone, of a section or a pointer of these lists:
+/// the low byte has three bits of it, the next one the fourth.
+fn domain_store(random: &mut Random) -> Operation {
+    let root = *random.pick(&ROOTS);
+    let (at, word) = match random.below(6) {
+        0 => (root, pointer(root)),
+        1..=2 => (root + 4, EQUAL_PAGES | 1),
+        _ => (root + *random.pick(&[4, 8, 0xC]), SECTION),
+    };
+    let bytes = in_domain(word, domain(random)).to_le_bytes();
+    let byte = random.below(2) as u32;
+    let value = u32::from(bytes[byte as usize]);
+    op(Kind::Write, at + byte, 1, value)
+}
+
 /// A flush that names everything, this page, this context or both.
 fn flush(random: &mut Random, at: u32, context: u32) -> Operation {
     match random.below(4) {
@@ -205,32 +286,55 @@ fn second_of_page_2(random: &mut Random) -> u32 {
     }
 }
 
-/// A page mapped and mapped anew, or only its XN changed, then read or fetched from: between these
-/// steps the context may change, and the page, a context or both may be flushed. Page 2 by its
-/// level-two word, or a page of the second MiB by its level-one word.
+/// Two level-two words of page 2, which may differ in XN alone.
+fn two_of_page_2(random: &mut Random) -> [u32; 2] {
+    let first = second_of_page_2(random);
+    let anew = match random.below(4) {
+        0 => first ^ XN_SMALL,
+        _ => second_of_page_2(random),
+    };
+    [first, anew]
+}
+
+/// Two level-one words of the second MiB, which may differ in XN alone, in the domain alone, or for
+/// this page of it in whether a section maps it.
+fn two_of_second_mib(random: &mut Random, page: u32) -> [u32; 2] {
+    let first = mib(random);
+    let ng = if page.is_multiple_of(2) {
+        NG_SECTION
+    } else {
+        0
+    };
+    let anew = match random.below(8) {
+        0..=1 => first ^ XN_SECTION,
+        2..=3 => first ^ 1 << (5 + random.below(4)),
+        4..=5 if first & 3 == 1 => SECTION | ng | first & DOMAIN,
+        4..=5 => EQUAL_PAGES | 1 | first & DOMAIN,
+        _ => mib(random),
+    };
+    [first, anew]
+}
+
+/// A page mapped and mapped anew, then read or fetched from: between these steps the context may
+/// change, and the page, a context or both may be flushed. Page 2 by its level-two word, or a page
+/// of the second MiB by its level-one word.
 fn turn(random: &mut Random, contexts: u32) -> Vec<Operation> {
-    let by_table = random.one_in(2);
-    let (page, at, xn) = if by_table {
-        (2, *random.pick(&[0x408, 0x408, 0x1408]), XN_SMALL)
+    let (page, at, words) = if random.one_in(2) {
+        let at = *random.pick(&[0x408, 0x408, 0x1408]);
+        (2, at, two_of_page_2(random))
     } else {
         let page = 256 + random.below(2) as u32;
-        (page, 4 + *random.pick(&ROOTS), XN_SECTION)
+        let at = 4 + *random.pick(&ROOTS);
+        (page, at, two_of_second_mib(random, page))
     };
-    let map = if by_table { second_of_page_2 } else { mib };
-    let first = map(random);
-    let anew = if random.one_in(4) {
-        first ^ xn
-    } else {
-        map(random)
-    };
+    let [first, anew] = words.map(|word| op(Kind::Write, at, 4, word));
     let last = if random.one_in(2) {
         op(Kind::Fetch, page << 12, 0, 0)
     } else {
         op(Kind::Read, page << 12, 4, 0)
     };
-    let store = |word| op(Kind::Write, at, 4, word);
     let mut list = Vec::new();
-    for (step, o) in [store(first), store(anew), last].into_iter().enumerate() {
+    for (step, o) in [first, anew, last].into_iter().enumerate() {
         if step > 0 && random.one_in(2) {
             let context = random.below(u64::from(contexts)) as u32;
             list.push(flush(random, page << 12, context));
@@ -244,21 +348,58 @@ fn turn(random: &mut Random, contexts: u32) -> Vec<Operation> {
     list
 }
 
-/// At least this many operations, with pages that turn among them.
+/// An access to a word, by a read, a write or a fetch.
+fn access(random: &mut Random, at: u32) -> Operation {
+    match random.below(3) {
+        0 => op(Kind::Read, at, 4, 0),
+        1 => op(Kind::Write, at, 4, random.word()),
+        _ => op(Kind::Fetch, at, 0, 0),
+    }
+}
+
+/// The second MiB mapped in a domain, by a section with or without rights or by a table, the
+/// domain's field set, and a page of the MiB accessed, in kernel or in user mode. Mostly the page
+/// is flushed after the store, and often all fields are 1 at the end.
+fn opened_or_closed(random: &mut Random) -> Vec<Operation> {
+    let (page, domain) = (256 + random.below(2) as u32, domain(random));
+    let rights = if random.one_in(3) { 0xC00 } else { 0 };
+    let word = in_domain(mib(random) & !rights, domain);
+    let field = *random.pick(&[0, 0, 1, 3, 3]);
+    let domains = with_field(domains(random), domain, field);
+    // In the middle of a frame of tables, where few lists look.
+    let at = page << 12 | 0x800 | (random.word() & 0x3FC);
+    let mut list = vec![op(Kind::Write, 4 + *random.pick(&ROOTS), 4, word)];
+    if !random.one_in(4) {
+        list.push(op(Kind::Addr, at, 0, 0));
+    }
+    list.push(op(Kind::Domain, domains, 0, 0));
+    if random.one_in(2) {
+        let [user, kernel] = [1, 0].map(|mode| op(Kind::Mode, mode, 0, 0));
+        list.extend([user, access(random, at), kernel]);
+    } else {
+        list.push(access(random, at));
+    }
+    if random.one_in(2) {
+        list.push(op(Kind::Domain, CLIENTS, 0, 0));
+    }
+    list
+}
+
+/// At least this many operations, with pages that turn and domains opened and closed among them.
 pub fn operations(random: &mut Random, contexts: u32, memory: u32, least: u64) -> Vec<Operation> {
     let mut list = Vec::new();
     while (list.len() as u64) < least {
-        if random.one_in(8) {
-            list.extend(turn(random, contexts));
-        } else {
-            list.push(operation(random, contexts, memory));
+        match random.below(24) {
+            0..=2 => list.extend(turn(random, contexts)),
+            3 => list.extend(opened_or_closed(random)),
+            _ => list.push(operation(random, contexts, memory)),
         }
     }
     list
 }
 
 /// The same operation with something wrong now and then: sizes, addresses, values, contexts, roots,
-/// modes.
+/// modes, domain registers.
 pub fn damaged(random: &mut Random, contexts: u32, mut o: Operation) -> Operation {
     match random.below(12) {
         0 => o.a = random.word(),
@@ -268,6 +409,7 @@ pub fn damaged(random: &mut Random, contexts: u32, mut o: Operation) -> Operatio
         4 if o.kind == Kind::Fetch => o.a = *random.pick(&[0x3F_FFFC, 0x40_0000, 0x40_0001]),
         // Behind all memory.
         4..=5 if o.kind == Kind::Root => o.a = MOST,
+        4..=5 if o.kind == Kind::Domain => o.a = with_reserved(random, o.a),
         _ => (),
     }
     o
@@ -284,7 +426,10 @@ pub fn text(operations: &[Operation]) -> Vec<u8> {
 }
 
 /// Names that are nearly that of an operation.
-const NEAR_NAMES: [&str; 6] = ["fetc", "fetchx", "Fetch", " fetch", "etch", "fetch\0"];
+const NEAR_NAMES: [&str; 12] = [
+    "fetc", "fetchx", "Fetch", " fetch", "etch", "fetch\0", "domai", "domains", "Domain",
+    " domain", "omain", "domain\0",
+];
 
 /// Puts such a name in place of one in a list, behind the line of names.
 fn rename(random: &mut Random, list: &mut Vec<u8>) {

@@ -14,10 +14,11 @@ pub enum Kind {
     Ctx,
     AddrCtx,
     Fetch,
+    Domain,
 }
 
 /// The operations in the order of the rules, with their names and how many fields each uses.
-pub const KINDS: [(Kind, &str, usize); 10] = [
+pub const KINDS: [(Kind, &str, usize); 11] = [
     (Kind::Read, "read", 2),
     (Kind::Write, "write", 3),
     (Kind::Root, "root", 1),
@@ -28,6 +29,7 @@ pub const KINDS: [(Kind, &str, usize); 10] = [
     (Kind::Ctx, "ctx", 1),
     (Kind::AddrCtx, "addrctx", 2),
     (Kind::Fetch, "fetch", 1),
+    (Kind::Domain, "domain", 1),
 ];
 
 #[derive(Clone, Copy, PartialEq, Eq, Debug)]
@@ -67,6 +69,39 @@ pub struct Registers {
     pub root: u32,
     pub context: u32,
     pub mode: u32,
+    /// The domain register: a field of two bits for each domain, that of domain 0 lowest.
+    pub domains: u32,
+}
+
+/// What an accepted start sets the domain register to: 1 in each field.
+pub const CLIENTS: u32 = 0x5555_5555;
+
+/// The field of a domain.
+pub fn field(domains: u32, domain: u32) -> u32 {
+    domains >> (2 * domain) & 3
+}
+
+/// The domains whose field is 2, which no domain register may have.
+pub fn reserved(domains: u32) -> Vec<u32> {
+    (0..16).filter(|d| field(domains, *d) == 2).collect()
+}
+
+impl Registers {
+    /// Those that an accepted start returns.
+    pub fn started(root: u32) -> Registers {
+        Registers {
+            root,
+            context: 0,
+            mode: 0,
+            domains: CLIENTS,
+        }
+    }
+
+    /// Whether each is one that the rules know, with this many contexts.
+    pub fn in_range(&self, contexts: u32) -> bool {
+        let domains = reserved(self.domains).is_empty();
+        self.root.is_multiple_of(0x80) && self.context < contexts && self.mode < 2 && domains
+    }
 }
 
 #[derive(Clone, Copy, PartialEq, Eq, PartialOrd, Ord, Debug)]
@@ -103,8 +138,9 @@ pub fn effect(
         Kind::Root => registers.root = operation.a,
         Kind::Asid => registers.context = operation.a,
         Kind::Mode => registers.mode = operation.a,
+        Kind::Domain => registers.domains = operation.a,
         Kind::Read | Kind::Write | Kind::Fetch => {
-            return match access(memory, registers.mode, operation, outcome) {
+            return match access(memory, registers, operation, outcome) {
                 Ok(value) => Answer::Ok(value),
                 Err(fault) => Answer::Fault(fault),
             }
@@ -114,9 +150,28 @@ pub fn effect(
     Answer::Ok(0)
 }
 
+/// Whether AP and XN let an access through an entry, in a mode.
+fn permits(entry: Entry, mode: u32, kind: Kind) -> bool {
+    let right = if kind == Kind::Write { "w" } else { "r" };
+    let stopped_by_xn = kind == Kind::Fetch && entry.xn;
+    !stopped_by_xn && RIGHTS[entry.ap as usize][mode as usize].contains(right)
+}
+
+/// What the field of an entry's domain, and where it asks for them AP and XN, say of an access.
+fn grant(entry: Entry, registers: &Registers, kind: Kind) -> Result<(), Fault> {
+    let told = |section, page| Err(if entry.section { section } else { page });
+    match field(registers.domains, entry.domain) {
+        0 | 2 => told(fault::DOMAIN_SECTION, fault::DOMAIN_PAGE),
+        1 if !permits(entry, registers.mode, kind) => {
+            told(fault::PERMISSION_SECTION, fault::PERMISSION_PAGE)
+        }
+        _ => Ok(()),
+    }
+}
+
 fn access(
     memory: &mut [u8],
-    mode: u32,
+    registers: &Registers,
     operation: &Operation,
     outcome: Result<Entry, Fault>,
 ) -> Result<u32, Fault> {
@@ -124,20 +179,11 @@ fn access(
         return Err(fault::ALIGNMENT);
     }
     let entry = outcome?;
-    let writes = operation.kind == Kind::Write;
-    let right = if writes { "w" } else { "r" };
-    let stopped_by_xn = operation.kind == Kind::Fetch && entry.xn;
-    if stopped_by_xn || !RIGHTS[entry.ap as usize][mode as usize].contains(right) {
-        return Err(if entry.section {
-            fault::PERMISSION_SECTION
-        } else {
-            fault::PERMISSION_PAGE
-        });
-    }
+    grant(entry, registers, operation.kind)?;
     let at = u64::from(entry.frame) << 12 | u64::from(operation.a & 0xFFF);
     let size = operation.size() as usize;
     let value = number(memory, at, size).ok_or(fault::ACCESS_OUTSIDE)?;
-    if !writes {
+    if operation.kind != Kind::Write {
         return Ok(value);
     }
     let at = at as usize;
@@ -268,7 +314,7 @@ impl Machine {
         if !root.is_multiple_of(0x80) {
             return (Answer::Refused(10), machine);
         }
-        machine.registers.root = root;
+        machine.registers = Registers::started(root);
         machine.sets.clear();
         machine.note();
         (Answer::Ok(0), machine)
@@ -326,17 +372,17 @@ impl Machine {
             Kind::AddrCtx => Some(b),
             _ => None,
         };
-        let held = r.root.is_multiple_of(0x80) && r.context < contexts && r.mode < 2;
         let large = matches!(b, 1 | 2) && u64::from(c) >= 1 << (8 * b);
         [
             (13, !self.lengths_fit()),
-            (14, !held),
+            (14, !r.in_range(contexts)),
             (7, access && !operation.is_sized()),
             (8, (access || flush_address) && a >= 0x40_0000),
             (9, kind == Kind::Write && large),
             (10, kind == Kind::Root && !a.is_multiple_of(0x80)),
             (11, context.is_some_and(|n| n >= contexts)),
             (12, kind == Kind::Mode && a > 1),
+            (17, kind == Kind::Domain && !reserved(a).is_empty()),
             (15, r.mode == 1 && !access && kind != Kind::Mode),
         ]
         .into_iter()

@@ -14,6 +14,9 @@ pub struct Entry {
     pub global: bool,
     /// Whether XN is set, so that nothing is fetched through it.
     pub xn: bool,
+    /// The domain, 0 to 15: that of the level-one word, for a page of the one that points to its
+    /// table.
+    pub domain: u32,
 }
 
 /// Why an operation carried out gave no value: a short-descriptor fault status code.
@@ -26,6 +29,8 @@ pub mod fault {
     pub const UNMAPPED_FIRST: u32 = 0x5;
     pub const WALK_OUTSIDE_SECOND: u32 = 0xE;
     pub const UNMAPPED_SECOND: u32 = 0x7;
+    pub const DOMAIN_SECTION: u32 = 0x9;
+    pub const DOMAIN_PAGE: u32 = 0xB;
     pub const PERMISSION_SECTION: u32 = 0xD;
     pub const PERMISSION_PAGE: u32 = 0xF;
     pub const ACCESS_OUTSIDE: u32 = 0x8;
@@ -39,8 +44,10 @@ pub mod fault {
     ];
 
     /// Those of the rest of an access.
-    pub const OF_ACCESSES: [u32; 4] = [
+    pub const OF_ACCESSES: [u32; 6] = [
         ALIGNMENT,
+        DOMAIN_SECTION,
+        DOMAIN_PAGE,
         PERMISSION_SECTION,
         PERMISSION_PAGE,
         ACCESS_OUTSIDE,
@@ -70,12 +77,13 @@ pub fn number(memory: &[u8], at: u64, size: usize) -> Option<u32> {
 pub fn walk(memory: &[u8], root: u32, address: u32) -> Result<Entry, Fault> {
     let at = u64::from(root) + 4 * u64::from(address / 0x10_0000);
     let first = number(memory, at, 4).ok_or(fault::WALK_OUTSIDE_FIRST)?;
+    let domain = bits(first, 5..=8);
     match bits(first, 0..=1) {
         1 => {
             let table = u64::from(first & 0xFFFF_FC00);
             let at = table + 4 * u64::from(address / 0x1000 % 256);
             let second = number(memory, at, 4).ok_or(fault::WALK_OUTSIDE_SECOND)?;
-            page(second, address)
+            page(second, address, domain)
         }
         2 if !bit(first, 18) => {
             let physical = (first & 0xFFF0_0000) | (address & 0x000F_FFFF);
@@ -86,13 +94,15 @@ pub fn walk(memory: &[u8], root: u32, address: u32) -> Result<Entry, Fault> {
                 section: true,
                 global: !bit(first, 17),
                 xn: bit(first, 4),
+                domain,
             })
         }
         _ => Err(fault::UNMAPPED_FIRST),
     }
 }
 
-fn page(second: u32, address: u32) -> Result<Entry, Fault> {
+/// What a level-two word maps, by a table of this domain.
+fn page(second: u32, address: u32, domain: u32) -> Result<Entry, Fault> {
     let (physical, xn) = match bits(second, 0..=1) {
         0 => return Err(fault::UNMAPPED_SECOND),
         1 => ((second & 0xFFFF_0000) | (address & 0xFFFF), bit(second, 15)),
@@ -105,6 +115,7 @@ fn page(second: u32, address: u32) -> Result<Entry, Fault> {
         section: false,
         global: !bit(second, 11),
         xn,
+        domain,
     })
 }
 
@@ -112,7 +123,7 @@ fn page(second: u32, address: u32) -> Result<Entry, Fault> {
 pub fn word(entry: Entry) -> u32 {
     let flag = |set: bool, n: u32| u32::from(set) << n;
     let flags = flag(entry.section, 8) | flag(entry.global, 7) | flag(entry.xn, 6);
-    entry.frame << 12 | entry.ap << 9 | flags | 2
+    entry.frame << 12 | entry.ap << 9 | flags | entry.domain << 2 | 2
 }
 
 /// The entry that a word is for, if it is the track word of one.
@@ -123,6 +134,7 @@ pub fn entry_of(found: u32) -> Option<Entry> {
         section: bit(found, 8),
         global: bit(found, 7),
         xn: bit(found, 6),
+        domain: bits(found, 2..=5),
     };
     (word(entry) == found).then_some(entry)
 }

@@ -101,6 +101,21 @@ fn a_stale_fetch_is_explained() {
     );
 }
 
+/// A closed domain is a fault, and no refusal; a field of 2 is one, and explained.
+#[test]
+fn a_domain_register_with_a_field_of_2_is_explained() {
+    let closed = of_list(&with_names("domain,0,0,0\nread,1000,4,0\n"));
+    let report = format!("{HEADER}2,domain,ok,0\n3,read,fault,b\n");
+    assert_eq!((closed.0, closed.1), (0, report));
+    let (status, report, error) = of_list(&with_names("domain,55555556,0,0\n"));
+    let expected = format!("{HEADER}2,domain,refused,11\n");
+    assert_eq!((status, report), (3, expected));
+    assert!(
+        error.contains("list:2: domain,55555556,0,0: refused: 17, "),
+        "{error}"
+    );
+}
+
 #[test]
 fn common_mistakes_are_named() {
     for (list, says) in [
@@ -110,6 +125,7 @@ fn common_mistakes_are_named() {
         ("op,a,b,c\nread,ABC,4,0\n", "lower case"),
         ("op,a,b,c\nREAD,1000,4,0\n", "lower case"),
         ("op,a,b,c\nFETCH,1000,0,0\n", "lower case"),
+        ("op,a,b,c\nDomain,0,0,0\n", "lower case"),
         ("\0\0\0\0", "swapped"),
     ] {
         let (status, _, error) = of_list(list);

@@ -94,6 +94,27 @@ fn fetches() {
     assert_eq!(lines(&format!("{NAMES}{list}")), report);
 }
 
+/// Image A is in domain 0: its field closed, opened to everything, and 1 again; a field of 2, the
+/// first or the last, and user mode, in which the register is not set. Nothing becomes stale by
+/// that; the domain of the first MiB's pointer alone changed makes its pages stale.
+#[test]
+fn domains() {
+    let list = "domain,55555554,0,0\nread,1000,4,0\nfetch,1000,0,0\nread,1002,4,0\n\
+                read,2000,1,0\nread,100000,4,0\ndomain,55555557,0,0\nmode,1,0,0\n\
+                read,400,4,0\ndomain,55555555,0,0\ndomain,95555555,0,0\nmode,0,0,0\n\
+                domain,55555556,0,0\nread,1000,4,0\ndomain,55555555,0,0\nmode,1,0,0\n\
+                read,400,4,0\nmode,0,0,0\nwrite,0,4,421\nread,1000,4,0\ndomain,0,0,0\n\
+                read,1000,4,0\nctx,0,0,0\nread,1000,4,0\ndomain,4,0,0\nread,1000,4,0\n";
+    let report = "2,domain,ok,0\n3,read,fault,b\n4,fetch,fault,b\n5,read,fault,1\n\
+                  6,read,fault,7\n7,read,fault,5\n8,domain,ok,0\n9,mode,ok,0\n\
+                  a,read,ok,812\nb,domain,refused,f\nc,domain,refused,11\nd,mode,ok,0\n\
+                  e,domain,refused,11\nf,read,ok,12345678\n10,domain,ok,0\n11,mode,ok,0\n\
+                  12,read,fault,f\n13,mode,ok,0\n14,write,ok,0\n15,read,refused,10\n\
+                  16,domain,ok,0\n17,read,refused,10\n18,ctx,ok,0\n19,read,fault,b\n\
+                  1a,domain,ok,0\n1b,read,ok,12345678\n";
+    assert_eq!(lines(&format!("{NAMES}{list}")), report);
+}
+
 #[test]
 fn the_empty_list_and_names_alone() {
     assert_eq!(lines(""), "1,-,refused,2\n");
@@ -135,35 +156,51 @@ fn a_list_at_its_limit() {
     assert_eq!(lines(&format!("{most}x")), "1,-,refused,1\n");
 }
 
+/// Lines that are turned back, and by which number.
+const TURNED_BACK: [(&str, u32); 38] = [
+    ("read,1000,4", 3),
+    ("read,1000,4,0,0", 3),
+    ("", 3),
+    ("foo,1", 3),
+    ("read,,4,0", 4),
+    ("read,01000,4,0", 4),
+    ("read,123456789,4,0", 4),
+    ("read,ABC,4,0", 4),
+    ("Read,XX,4,0", 4),
+    ("Read,1000,4,0", 5),
+    (",0,0,0", 5),
+    ("read,1000,4,1", 6),
+    ("all,1,0,0", 6),
+    ("addrctx,1000,0,1", 6),
+    ("fetch,1000,0", 3),
+    ("fetch,1000,0,0,0", 3),
+    ("fetch,,0,0", 4),
+    ("fetch,1000,04,0", 4),
+    ("fetc,1000,0,0", 5),
+    ("fetchx,1000,0,0", 5),
+    ("Fetch,1000,0,0", 5),
+    ("fetch ,1000,0,0", 5),
+    ("addrctxfetch,1000,0,0", 5),
+    ("fetch,1000,4,0", 6),
+    ("fetch,1000,0,1", 6),
+    ("domain,0,0", 3),
+    ("domain,0,0,0,0", 3),
+    ("domain,,0,0", 4),
+    ("domain,0x0,0,0", 4),
+    ("domain,155555555,0,0", 4),
+    ("domai,0,0,0", 5),
+    ("domains,0,0,0", 5),
+    ("Domain,0,0,0", 5),
+    (" domain,0,0,0", 5),
+    ("fetchdomain,0,0,0", 5),
+    ("domain,0,1,0", 6),
+    ("domain,0,0,1", 6),
+    ("domain,2,1,0", 6),
+];
+
 #[test]
 fn each_list_refusal_ends_the_report() {
-    for (line, number) in [
-        ("read,1000,4", 3),
-        ("read,1000,4,0,0", 3),
-        ("", 3),
-        ("foo,1", 3),
-        ("read,,4,0", 4),
-        ("read,01000,4,0", 4),
-        ("read,123456789,4,0", 4),
-        ("read,ABC,4,0", 4),
-        ("Read,XX,4,0", 4),
-        ("Read,1000,4,0", 5),
-        (",0,0,0", 5),
-        ("read,1000,4,1", 6),
-        ("all,1,0,0", 6),
-        ("addrctx,1000,0,1", 6),
-        ("fetch,1000,0", 3),
-        ("fetch,1000,0,0,0", 3),
-        ("fetch,,0,0", 4),
-        ("fetch,1000,04,0", 4),
-        ("fetc,1000,0,0", 5),
-        ("fetchx,1000,0,0", 5),
-        ("Fetch,1000,0,0", 5),
-        ("fetch ,1000,0,0", 5),
-        ("addrctxfetch,1000,0,0", 5),
-        ("fetch,1000,4,0", 6),
-        ("fetch,1000,0,1", 6),
-    ] {
+    for (line, number) in TURNED_BACK {
         let list = format!("{NAMES}mode,0,0,0\n{line}\nmode,0,0,0\n");
         let report = format!("2,mode,ok,0\n3,-,refused,{number}\n");
         assert_eq!(lines(&list), report, "{line}");

@@ -4,7 +4,7 @@
 use std::fs;
 use std::io::{self, Read, Write};
 
-const NAMES: [(&str, usize); 10] = [
+const NAMES: [(&str, usize); 11] = [
     ("read", 2),
     ("write", 3),
     ("root", 1),
@@ -15,10 +15,12 @@ const NAMES: [(&str, usize); 10] = [
     ("ctx", 1),
     ("addrctx", 2),
     ("fetch", 1),
+    ("domain", 1),
 ];
 
-/// The place of `fetch` among them.
+/// The places of `fetch` and `domain` among them.
 const FETCH: usize = 9;
+const DOMAIN: usize = 10;
 
 /// What may be done by AP and mode: 0 nothing, 1 reading, 2 reading and writing.
 const RIGHTS: [[u32; 2]; 8] = [
@@ -51,6 +53,7 @@ struct Machine {
     root: u32,
     context: u32,
     mode: u32,
+    domains: u32,
     note: Note,
 }
 
@@ -69,7 +72,12 @@ const GLOBAL: u32 = 1 << 7;
 const XN: u32 = 1 << 6;
 
 /// The bits that are alike in all words for one entry in a row.
-const OF_ROW: u32 = 0xFF & !XN;
+const OF_ROW: u32 = GLOBAL | 3;
+
+/// The domain of a level-one word, in its place in a track word.
+fn domain(first: u32) -> u32 {
+    (first >> 5 & 0xF) << 2
+}
 
 /// Whether a level-one word points to a table.
 fn is_table(first: u32) -> bool {
@@ -85,8 +93,8 @@ fn is_section(first: u32) -> bool {
 fn section(first: u32, page: usize) -> u32 {
     let ap = first >> 13 & 4 | first >> 10 & 3;
     let global = !first >> 10 & GLOBAL;
-    let xn = first << 2 & XN;
-    first & 0xFFF0_0000 | (page as u32 & 0xFF) << 12 | ap << 9 | SECTION | global | xn | 2
+    let rest = ap << 9 | SECTION | global | first << 2 & XN | domain(first) | 2;
+    first & 0xFFF0_0000 | (page as u32 & 0xFF) << 12 | rest
 }
 
 /// The track word of a page by the table of a level-one word, or its fault.
@@ -94,7 +102,7 @@ fn by_table(memory: &[u8], first: u32, page: usize) -> Result<u32, u32> {
     let table = (first & !0x3FF) as usize;
     let second = load(memory, table + 4 * (page & 0xFF)).ok_or(0xE_u32)?;
     let ap = second >> 7 & 4 | second >> 4 & 3;
-    let rest = ap << 9 | !second >> 4 & GLOBAL | 2;
+    let rest = ap << 9 | !second >> 4 & GLOBAL | domain(first) | 2;
     match second & 3 {
         0 => Err(7),
         1 => Ok(second & 0xFFFF_0000 | (page as u32 & 0xF) << 12 | second >> 9 & XN | rest),
@@ -156,6 +164,11 @@ pub fn by_mib(memory: &[u8], root: u32, own: &mut [u32], global: &mut [u32]) {
     }
 }
 
+/// Whether a field of a domain register is 2: its high bit is set and its low one is clear.
+fn has_reserved(domains: u32) -> bool {
+    domains >> 1 & !domains & 0x5555_5555 != 0
+}
+
 impl Machine {
     fn noting(&mut self) {
         let (contexts, global) = self.track.split_at_mut(OWN);
@@ -184,10 +197,29 @@ impl Machine {
         if kind == 4 && a > 1 {
             return Some(12);
         }
+        if kind == DOMAIN && has_reserved(a) {
+            return Some(17);
+        }
         if self.mode == 1 && !access && kind != 4 {
             return Some(15);
         }
         None
+    }
+
+    /// The domain or permission fault of an access through an entry, if it has one.
+    fn stopped(&self, kind: usize, entry: u32) -> Option<u32> {
+        let from_section = entry & SECTION != 0;
+        let domain = entry >> 2 & 0xF;
+        match self.domains >> (2 * domain) & 3 {
+            3 => None,
+            1 => {
+                let rights = RIGHTS[(entry >> 9 & 7) as usize][self.mode as usize];
+                let needs = 1 + u32::from(kind == 1);
+                let stopped = rights < needs || kind == FETCH && entry & XN != 0;
+                stopped.then_some(if from_section { 0xD } else { 0xF })
+            }
+            _ => Some(if from_section { 0x9 } else { 0xB }),
+        }
     }
 
     fn access(&mut self, kind: usize, [a, size, value]: [u32; 3]) -> Answer {
@@ -206,17 +238,14 @@ impl Machine {
             Ok(entry) => entry,
             Err(fault) => return Answer::Fault(fault),
         };
-        let writes = kind == 1;
-        let rights = RIGHTS[(entry >> 9 & 7) as usize][self.mode as usize];
-        if rights < 1 + u32::from(writes) || kind == FETCH && entry & XN != 0 {
-            let from_section = entry & SECTION != 0;
-            return Answer::Fault(if from_section { 0xD } else { 0xF });
+        if let Some(fault) = self.stopped(kind, entry) {
+            return Answer::Fault(fault);
         }
         let at = (entry >> 12) as usize * 4096 + (a & 0xFFF) as usize;
         let Some(bytes) = self.memory.get_mut(at..at + size as usize) else {
             return Answer::Fault(8);
         };
-        if writes {
+        if kind == 1 {
             bytes.copy_from_slice(&value.to_le_bytes()[..size as usize]);
             return Answer::Ok(0);
         }
@@ -237,6 +266,7 @@ impl Machine {
             2 => self.root = a,
             3 => self.context = a,
             4 => self.mode = a,
+            DOMAIN => self.domains = a,
             5 => self.track.fill(0),
             6 => {
                 let page = (a >> 12) as usize;
@@ -342,6 +372,7 @@ pub fn report(mut image: Vec<u8>, list: &[u8], note: Note) -> Vec<u8> {
         root: 0,
         context: 0,
         mode: 0,
+        domains: 0x5555_5555,
         note,
     };
     machine.noting();

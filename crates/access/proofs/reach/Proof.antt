@@ -12,9 +12,6 @@ use Rattle.access.proofs.domain_fault.Reads as domain-fault-reads
 use Rattle.access.proofs.permission_fault.Reads as permission-fault-reads
 use Rattle.memory.proofs.inside.Reads as inside-reads
 
-enum-told : tie.Need-enum-told
-enum-told c = search needs
-
 cast-at : tie.Need-cast-at
 cast-at c = search needs
 
@@ -27,48 +24,51 @@ add-at c = search needs
 inside-requires : tie.Need-inside-requires
 inside-requires c κs = search needs
 
-returns : tie.Need-returns
-returns c = let i = c .before in let e = i .before .before in let a = e .before .before .before .args in
-    sym (ap (λ (y : Ruling). reached y (a .e) (a .size) (a .a) (now (a .m))) (e .enum-told .given .1) ∙ simp (sym (i .inside .ensures) ∙ c .if1 .taken))
-
-enum-told-2 : tie.Need-enum-told-2
-enum-told-2 c = search needs
-
 permission-fault-requires : tie.Need-permission-fault-requires
 permission-fault-requires c κs = search needs
-
-enum-told-3 : tie.Need-enum-told-3
-enum-told-3 c = search needs
 
 domain-fault-requires : tie.Need-domain-fault-requires
 domain-fault-requires c κs = search needs
 
+enum-told : tie.Need-enum-told
+enum-told c = search needs
+
+enum-told-2 : tie.Need-enum-told-2
+enum-told-2 c = search needs
+
+enum-told-3 : tie.Need-enum-told-3
+enum-told-3 c = search needs
+
+returns : tie.Need-returns
+returns c = let e = c .before in let i = e .before .before .before .before in let a = i .before .before .before .args in
+    sym (ap (λ (y : Ruling). reached y (a .e) (a .size) (a .a) (now (a .m))) (e .enum-told3 .given .1) ∙ simp (sym (i .inside .ensures) ∙ c .if1 .taken))
+
 returns-2 : tie.Need-returns-2
-returns-2 c = let i = c .before in let e = i .before .before in let a = e .before .before .before .args in
-    sym (ap (λ (y : Ruling). reached y (a .e) (a .size) (a .a) (now (a .m))) (e .enum-told .given .1) ∙ simp (sym (i .inside .ensures) ∙ c .if1 .left))
+returns-2 c = let d = c .before .before in let a = d .before .before .before .before .before .args in
+    ap Fails (d .domain-fault .ensures) ∙ sym (ap (λ (y : Ruling). reached y (a .e) (a .size) (a .a) (now (a .m))) (c .enum-told .given .1))
 
 returns-3 : tie.Need-returns-3
-returns-3 c = let e = c .before in let a = e .before .before .before .args in
-    ap Fails (c .permission-fault .ensures) ∙ sym (ap (λ (y : Ruling). reached y (a .e) (a .size) (a .a) (now (a .m))) (e .enum-told2 .given .1))
+returns-3 c = let p = c .before .before .before in let a = p .before .before .before .before .args in
+    ap Fails (p .permission-fault .ensures) ∙ sym (ap (λ (y : Ruling). reached y (a .e) (a .size) (a .a) (now (a .m))) (c .enum-told2 .given .1))
 
 returns-4 : tie.Need-returns-4
-returns-4 c = let e = c .before in let a = e .before .before .before .args in
-    ap Fails (c .domain-fault .ensures) ∙ sym (ap (λ (y : Ruling). reached y (a .e) (a .size) (a .a) (now (a .m))) (e .enum-told3 .given .1))
+returns-4 c = let e = c .before in let i = e .before .before .before .before in let a = i .before .before .before .args in
+    sym (ap (λ (y : Ruling). reached y (a .e) (a .size) (a .a) (now (a .m))) (e .enum-told3 .given .1) ∙ simp (sym (i .inside .ensures) ∙ c .if1 .left))
 
 pub reach-spec : {M : Type 1} → statement M
 reach-spec =
     tie.close
     (tie.spec
-    enum-told
     cast-at
     mul-at
     add-at
     inside-requires
-    returns
-    enum-told-2
     permission-fault-requires
-    enum-told-3
     domain-fault-requires
+    enum-told
+    enum-told-2
+    enum-told-3
+    returns
     returns-2
     returns-3
     returns-4)

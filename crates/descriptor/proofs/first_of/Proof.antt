@@ -1,7 +1,8 @@
 use borrow.Author.Tests.{eq-eqb, ne-eqb, lt-ltb, le-ltb, le-leb, lt-leb}
+use Prim.Native.Nat.{ℕ}
 use mathlib.Core.Path.{ap, sym, _∙_}
-use Rattle.model.specs.step.Walk.{firstOf}
-use Rattle.model.specs.declared.FirstLevel.the-variants.{Section}
+use Rattle.model.specs.step.Walk.{pointerOf, firstOf}
+use Rattle.model.specs.declared.FirstLevel.the-variants.{Table, Section}
 use borrow.Author.Needs.{needs}
 use Rattle.descriptor.proofs.first_of.Statement.{statement}
 use Rattle.descriptor.proofs.first_of.Tie as tie
@@ -18,7 +19,9 @@ domain-of-requires c κs = search needs
 
 returns : tie.Need-returns
 unfolding firstOf
-returns c = simp (eq-eqb _ _ (c .before .if1 .taken)) (rw (c .domain-of .ensures))
+returns c =
+    simp (eq-eqb _ _ (c .before .if1 .taken))
+    (ap (λ (d : ℕ). Table (record { base = pointerOf (c .before .before .args .w) .base; domain = d })) (c .domain-of .ensures))
 
 section-entry-requires : tie.Need-section-entry-requires
 section-entry-requires c κs = search needs
