@@ -1,7 +1,9 @@
 // The checks that stand before an access, one function to each, and the numbers of refusals.
 ghost use mathlib.Core.Path.{_≡_};
+ghost use mathlib.Core.List.{[], _∷_};
 ghost use Prim.Native.Nat.{_<_};
 ghost use Rattle.model.specs.Numbers.{refusalNumber};
+ghost use Rattle.model.specs.declared.Refusal.the-variants.{WrongRoot, WrongContext, WrongMode, WrongDomains, UserMode};
 ghost use Rattle.model.specs.step.Checks.{sizeFits, addressFits, valueFits, newRootFits, contextFits, modeFits, newDomainsFit, mayAsk, checks, startChecks, firstFailing, Says};
 use limits::domains_fit;
 use limits::fits_size;
@@ -106,6 +108,28 @@ pub fn may_ask(kind: Kind, mode: u32) -> bool
     }
 }
 
+// The first that fails of the checks from that of a new root on.
+fn check_new_values(root: bool, context: bool, mode: bool, domains: bool, asked: bool) -> Check
+    ensures { λ x. ⌜ Says (firstFailing ((root, WrongRoot) ∷ (context, WrongContext) ∷ (mode, WrongMode) ∷ (domains, WrongDomains) ∷ (asked, UserMode) ∷ [])) x ⌝ }
+{
+    if !root {
+        return Check::Refuse(Refusal::WrongRoot);
+    }
+    if !context {
+        return Check::Refuse(Refusal::WrongContext);
+    }
+    if !mode {
+        return Check::Refuse(Refusal::WrongMode);
+    }
+    if !domains {
+        return Check::Refuse(Refusal::WrongDomains);
+    }
+    if !asked {
+        return Check::Refuse(Refusal::UserMode);
+    }
+    Check::Pass
+}
+
 // The first check that an operation fails, on a memory of m bytes and a track of t words.
 pub fn check(o: Operation, r: Registers, m: usize, t: usize) -> Check
     ensures { λ x. ⌜ Says (firstFailing (checks o r m t)) x ⌝ }
@@ -137,22 +161,7 @@ pub fn check(o: Operation, r: Registers, m: usize, t: usize) -> Check
     if !value {
         return Check::Refuse(Refusal::WrongValue);
     }
-    if !root {
-        return Check::Refuse(Refusal::WrongRoot);
-    }
-    if !context {
-        return Check::Refuse(Refusal::WrongContext);
-    }
-    if !mode {
-        return Check::Refuse(Refusal::WrongMode);
-    }
-    if !domains {
-        return Check::Refuse(Refusal::WrongDomains);
-    }
-    if !asked {
-        return Check::Refuse(Refusal::UserMode);
-    }
-    Check::Pass
+    check_new_values(root, context, mode, domains, asked)
 }
 
 // The first check that a start fails.

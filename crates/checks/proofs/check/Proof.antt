@@ -1,12 +1,13 @@
 use mathlib.Core.Path.{ap, _∙_}
 use Rattle.model.specs.step.Checks.{registersFit, contextFits, checks}
-use Rattle.checks.proofs.Laws.{passed, failed, none-left}
+use Rattle.checks.proofs.Laws.{passed, failed, as-tested}
 use borrow.Author.Needs.{needs}
 use Rattle.checks.proofs.check.Statement.{statement}
 use Rattle.checks.proofs.check.Tie as tie
 use Rattle.checks.proofs.check.Reads as reads
 use Rattle.checks.proofs.check.Lts as lts
 use Rattle.checks.proofs.address_fits.Reads as address-fits-reads
+use Rattle.checks.proofs.check_new_values.Reads as check-new-values-reads
 use Rattle.checks.proofs.context_fits.Reads as context-fits-reads
 use Rattle.limits.proofs.last_row.Reads as last-row-reads
 use Rattle.limits.proofs.lengths_fit.Reads as lengths-fit-reads
@@ -99,6 +100,9 @@ returns-5 c = let i4 = c .before in let i3 = i4 .before in let i2 = i3 .before i
     passed _ _ (f4 .address-fits .ensures) (i4 .if4 .left) (
     failed _ _ (f5 .value-fits .ensures) (c .if5 .taken)))))
 
+check-new-values-requires : tie.Need-check-new-values-requires
+check-new-values-requires c κs = search needs
+
 returns-6 : tie.Need-returns-6
 unfolding checks
 returns-6 c = let i5 = c .before in let i4 = i5 .before in let i3 = i4 .before in let i2 = i3 .before in
@@ -110,92 +114,8 @@ returns-6 c = let i5 = c .before in let i4 = i5 .before in let i3 = i4 .before i
     passed _ _ (f3 .size-fits .ensures) (i3 .if3 .left) (
     passed _ _ (f4 .address-fits .ensures) (i4 .if4 .left) (
     passed _ _ (f5 .value-fits .ensures) (i5 .if5 .left) (
-    failed _ _ (f6 .new-root-fits .ensures) (c .if6 .taken))))))
-
-returns-7 : tie.Need-returns-7
-unfolding checks
-returns-7 c = let i6 = c .before in let i5 = i6 .before in let i4 = i5 .before in let i3 = i4 .before in
-    let i2 = i3 .before in let i1 = i2 .before in let f10 = i1 .before in let f9 = f10 .before in
-    let f8 = f9 .before in let f7 = f8 .before in let f6 = f7 .before in let f5 = f6 .before in
-    let f4 = f5 .before in let f3 = f4 .before in let f2 = f3 .before in let k = f2 .before in
-    let f1 = k .before in
-    passed _ _ (f1 .lengths-fit .ensures) (i1 .if1 .left) (
-    passed _ _ (f2 .registers-fit .ensures ∙ ap (registersFit _) (k .last-row .ensures)) (i2 .if2 .left) (
-    passed _ _ (f3 .size-fits .ensures) (i3 .if3 .left) (
-    passed _ _ (f4 .address-fits .ensures) (i4 .if4 .left) (
-    passed _ _ (f5 .value-fits .ensures) (i5 .if5 .left) (
-    passed _ _ (f6 .new-root-fits .ensures) (i6 .if6 .left) (
-    failed _ _ (f7 .context-fits .ensures ∙ ap (contextFits _ _ _) (k .last-row .ensures)) (c .if7 .taken)))))))
-
-returns-8 : tie.Need-returns-8
-unfolding checks
-returns-8 c = let i7 = c .before in let i6 = i7 .before in let i5 = i6 .before in let i4 = i5 .before in
-    let i3 = i4 .before in let i2 = i3 .before in let i1 = i2 .before in let f10 = i1 .before in
-    let f9 = f10 .before in let f8 = f9 .before in let f7 = f8 .before in let f6 = f7 .before in
-    let f5 = f6 .before in let f4 = f5 .before in let f3 = f4 .before in let f2 = f3 .before in
-    let k = f2 .before in let f1 = k .before in
-    passed _ _ (f1 .lengths-fit .ensures) (i1 .if1 .left) (
-    passed _ _ (f2 .registers-fit .ensures ∙ ap (registersFit _) (k .last-row .ensures)) (i2 .if2 .left) (
-    passed _ _ (f3 .size-fits .ensures) (i3 .if3 .left) (
-    passed _ _ (f4 .address-fits .ensures) (i4 .if4 .left) (
-    passed _ _ (f5 .value-fits .ensures) (i5 .if5 .left) (
-    passed _ _ (f6 .new-root-fits .ensures) (i6 .if6 .left) (
-    passed _ _ (f7 .context-fits .ensures ∙ ap (contextFits _ _ _) (k .last-row .ensures)) (i7 .if7 .left) (
-    failed _ _ (f8 .mode-fits .ensures) (c .if8 .taken))))))))
-
-returns-9 : tie.Need-returns-9
-unfolding checks
-returns-9 c = let i8 = c .before in let i7 = i8 .before in let i6 = i7 .before in let i5 = i6 .before in
-    let i4 = i5 .before in let i3 = i4 .before in let i2 = i3 .before in let i1 = i2 .before in
-    let f10 = i1 .before in let f9 = f10 .before in let f8 = f9 .before in let f7 = f8 .before in
-    let f6 = f7 .before in let f5 = f6 .before in let f4 = f5 .before in let f3 = f4 .before in
-    let f2 = f3 .before in let k = f2 .before in let f1 = k .before in
-    passed _ _ (f1 .lengths-fit .ensures) (i1 .if1 .left) (
-    passed _ _ (f2 .registers-fit .ensures ∙ ap (registersFit _) (k .last-row .ensures)) (i2 .if2 .left) (
-    passed _ _ (f3 .size-fits .ensures) (i3 .if3 .left) (
-    passed _ _ (f4 .address-fits .ensures) (i4 .if4 .left) (
-    passed _ _ (f5 .value-fits .ensures) (i5 .if5 .left) (
-    passed _ _ (f6 .new-root-fits .ensures) (i6 .if6 .left) (
-    passed _ _ (f7 .context-fits .ensures ∙ ap (contextFits _ _ _) (k .last-row .ensures)) (i7 .if7 .left) (
-    passed _ _ (f8 .mode-fits .ensures) (i8 .if8 .left) (
-    failed _ _ (f9 .new-domains-fit .ensures) (c .if9 .taken)))))))))
-
-returns-10 : tie.Need-returns-10
-unfolding checks
-returns-10 c = let i9 = c .before in let i8 = i9 .before in let i7 = i8 .before in let i6 = i7 .before in
-    let i5 = i6 .before in let i4 = i5 .before in let i3 = i4 .before in let i2 = i3 .before in
-    let i1 = i2 .before in let f10 = i1 .before in let f9 = f10 .before in let f8 = f9 .before in
-    let f7 = f8 .before in let f6 = f7 .before in let f5 = f6 .before in let f4 = f5 .before in
-    let f3 = f4 .before in let f2 = f3 .before in let k = f2 .before in let f1 = k .before in
-    passed _ _ (f1 .lengths-fit .ensures) (i1 .if1 .left) (
-    passed _ _ (f2 .registers-fit .ensures ∙ ap (registersFit _) (k .last-row .ensures)) (i2 .if2 .left) (
-    passed _ _ (f3 .size-fits .ensures) (i3 .if3 .left) (
-    passed _ _ (f4 .address-fits .ensures) (i4 .if4 .left) (
-    passed _ _ (f5 .value-fits .ensures) (i5 .if5 .left) (
-    passed _ _ (f6 .new-root-fits .ensures) (i6 .if6 .left) (
-    passed _ _ (f7 .context-fits .ensures ∙ ap (contextFits _ _ _) (k .last-row .ensures)) (i7 .if7 .left) (
-    passed _ _ (f8 .mode-fits .ensures) (i8 .if8 .left) (
-    passed _ _ (f9 .new-domains-fit .ensures) (i9 .if9 .left) (
-    failed _ _ (f10 .may-ask .ensures) (c .if10 .taken))))))))))
-
-returns-11 : tie.Need-returns-11
-unfolding checks
-returns-11 c = let i9 = c .before in let i8 = i9 .before in let i7 = i8 .before in let i6 = i7 .before in
-    let i5 = i6 .before in let i4 = i5 .before in let i3 = i4 .before in let i2 = i3 .before in
-    let i1 = i2 .before in let f10 = i1 .before in let f9 = f10 .before in let f8 = f9 .before in
-    let f7 = f8 .before in let f6 = f7 .before in let f5 = f6 .before in let f4 = f5 .before in
-    let f3 = f4 .before in let f2 = f3 .before in let k = f2 .before in let f1 = k .before in
-    passed _ _ (f1 .lengths-fit .ensures) (i1 .if1 .left) (
-    passed _ _ (f2 .registers-fit .ensures ∙ ap (registersFit _) (k .last-row .ensures)) (i2 .if2 .left) (
-    passed _ _ (f3 .size-fits .ensures) (i3 .if3 .left) (
-    passed _ _ (f4 .address-fits .ensures) (i4 .if4 .left) (
-    passed _ _ (f5 .value-fits .ensures) (i5 .if5 .left) (
-    passed _ _ (f6 .new-root-fits .ensures) (i6 .if6 .left) (
-    passed _ _ (f7 .context-fits .ensures ∙ ap (contextFits _ _ _) (k .last-row .ensures)) (i7 .if7 .left) (
-    passed _ _ (f8 .mode-fits .ensures) (i8 .if8 .left) (
-    passed _ _ (f9 .new-domains-fit .ensures) (i9 .if9 .left) (
-    passed _ _ (f10 .may-ask .ensures) (c .if10 .left) (
-    none-left))))))))))
+    as-tested (f6 .new-root-fits .ensures) (f7 .context-fits .ensures ∙ ap (contextFits _ _ _) (k .last-row .ensures)) (f8 .mode-fits .ensures)
+    (f9 .new-domains-fit .ensures) (f10 .may-ask .ensures) (c .check-new-values .ensures))))))
 
 pub check-spec : {M : Type 1} → statement M
 check-spec =
@@ -217,9 +137,5 @@ check-spec =
     returns-3
     returns-4
     returns-5
-    returns-6
-    returns-7
-    returns-8
-    returns-9
-    returns-10
-    returns-11)
+    check-new-values-requires
+    returns-6)
