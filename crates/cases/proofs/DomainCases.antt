@@ -9,8 +9,7 @@ use lib.ListN.{replicate, set}
 use Rattle.model.specs.step.Rights.{permitted, fieldAt, rulingOf}
 use Rattle.model.specs.step.Track.{wordAt}
 use Rattle.model.specs.step.Machine.{After, started}
-use Rattle.model.specs.declared.Kind.{Kind}
-use Rattle.model.specs.declared.Kind.the-variants.{Read, Write, Root, Asid, Mode, Addr, Fetch, Domain}
+use Rattle.model.specs.declared.Kind.the-variants.{Read, Write, Asid, Mode, Addr, Fetch, Domain}
 use Rattle.model.specs.declared.Purpose.{Purpose}
 use Rattle.model.specs.declared.Purpose.the-variants.{ToRead, ToWrite, ToFetch}
 use Rattle.model.specs.declared.Ruling.{Ruling}
@@ -212,12 +211,7 @@ abbrev pagesFrom : ℕ → ℕ → List ℕ
 pagesFrom p zero = []
 pagesFrom p (suc n) = p ∷ pagesFrom (suc p) n
 
--- each of these pages has in context c a word w but for the frame of its place among them; each has several; a read of each that is
--- mapped is refused as stale
-abbrev wordsOf : ℕ → ℕ → ℕ → List ℕ → After → List (ℕ × ℕ)
-wordsOf c w i [] x = []
-wordsOf c w i (p ∷ ps) x = (wordAt (x .track) c p, i * 4096 + w) ∷ wordsOf c w (suc i) ps x
-
+-- each of these pages has several entries in a row; a read of each is refused as stale
 abbrev severalOf : ℕ → List ℕ → After → List (ℕ × ℕ)
 severalOf c [] x = []
 severalOf c (p ∷ ps) x = (wordAt (x .track) c p, 1) ∷ severalOf c ps x

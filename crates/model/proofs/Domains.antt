@@ -1,20 +1,19 @@
 -- A TLB never remembers the domain register, and always the domain of a descriptor.
-use Prim.Native.Nat.{ℕ, zero, suc, _+_, _*_, _-_, _/_, _%_, _^_, _<_, _≤_}
-use mathlib.Core.Path.{_≡_, refl, sym, ap, ap₂, _∙_, subst}
-use mathlib.Core.Bool.{Bool, true, false, cond, not, _&&_, _||_, or-true}
+use Prim.Native.Nat.{ℕ, suc, _+_, _*_, _-_, _/_, _%_, _<_, _≤_}
+use mathlib.Core.Path.{_≡_, refl, sym, ap, ap₂, _∙_}
+use mathlib.Core.Bool.{Bool, true, false, cond, not, _&&_, or-true}
 use mathlib.Core.List.{List, [], _∷_, foldl}
 use native.Mathlib.Omega.{arith}
 use lib.Dec.{eqb, ltb}
 use lib.ListN.{length, getD}
-use borrow.Author.Tests.{eqb-true, eq-eqb, ne-eqb, lt-ltb, ltb-true, ltb-false}
+use borrow.Author.Tests.{eqb-true, ltb-false}
 use Rattle.model.specs.Limits.{pageSize, rowSize}
 use Rattle.model.specs.Numbers.{Result, shown}
-use Rattle.model.specs.reference.Rules.{Translation, found, failed, inMemory, value, bits, descriptor, globalBy, domainOf, section, largePage, smallPage, pageWord, tableWord, State, setRegisters, effect, outcome, carriedOut, Scope, own, global, covers, flushes, Held, Places, Move, drop, load, move, moves, orWalk, heldFor, chipOutcome, flushPlace, chipStep, one, kept, same, differs, notedIn, wordAfter, contexts, rowOf, hasRow, trackWord, stale}
-use Rattle.model.specs.reference.Runs.{next, isRefused}
-use Rattle.model.specs.step.Machine.{After}
+use Rattle.model.specs.reference.Rules.{Translation, found, failed, inMemory, value, bits, descriptor, globalBy, domainOf, section, largePage, smallPage, pageWord, tableWord, State, setRegisters, effect, outcome, carriedOut, Scope, own, global, covers, flushes, Places, Move, drop, load, move, moves, chipOutcome, chipStep, one, kept, same, differs, notedIn, wordAfter, contexts, rowOf, hasRow, trackWord, stale}
+use Rattle.model.specs.reference.Runs.{isRefused}
 use Rattle.model.specs.Demands.{after}
-use Rattle.model.specs.Invisible.{Session, Accepted, atEnd, checker}
-use Rattle.model.specs.Domains.{toDomains, under, staleAfter, RegisterForgotten, redomained, withDomain, DomainRemembered}
+use Rattle.model.specs.Invisible.{atEnd, checker}
+use Rattle.model.specs.Domains.{toDomains, under, RegisterForgotten, redomained, withDomain, DomainRemembered}
 use Rattle.model.specs.Types.{Operation, Entry}
 use Rattle.model.proofs.BoolLaws.{push}
 use Rattle.model.proofs.Entries.{same-true}

@@ -1,19 +1,15 @@
 -- In a run from an accepted start the track is noted after every operation: to note it again changes no word.
-use Prim.Native.Nat.{ℕ, _+_, _*_, _-_, _/_, _%_, _<_}
+use Prim.Native.Nat.{ℕ, _+_, _*_, _-_, _/_, _<_}
 use mathlib.Core.Path.{_≡_, refl, sym, ap, ap₂, _∙_, subst, subst₂}
 use mathlib.Core.Bool.{Bool, true, false, cond, true≢false}
 use mathlib.Core.List.{List, [], _∷_}
-use native.Mathlib.Omega.{arith}
-use lib.Dec.{eqb, leb}
 use lib.ListN.{length}
-use borrow.Author.Tests.{eqb-true, leb-true}
-use Rattle.model.specs.Limits.{pageSize, rowSize, contextsMost}
+use Rattle.model.specs.Limits.{pageSize, rowSize}
 use Rattle.model.specs.Numbers.{Result, ok, fault, refused, shown}
 use Rattle.model.specs.reference.Rules.{Translation, found, failed, bits, State, fresh, outcome, carriedOut, Scope, scopeOf, sameScope, flushes, Kept, empty, one, several, wordOf, entryOf, kept, same, addTo, noted, notedIn, wordAfter, contexts, trackWord, hasRow}
 use Rattle.model.specs.reference.Runs.{last, next, checkerRun, isRefused}
-use Rattle.model.specs.step.Checks.{lengthsFit, memoryFits, trackFits}
 use Rattle.model.specs.step.Machine.{After, started}
-use Rattle.model.specs.Demands.{Call, after, before}
+use Rattle.model.specs.Demands.{after}
 use Rattle.model.specs.Invisible.{Session, begun, Accepted, atEnd, checker}
 use Rattle.model.specs.Types.{Operation, Entry}
 use Rattle.model.proofs.Entries.{Fits, same-self}

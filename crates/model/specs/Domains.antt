@@ -4,7 +4,7 @@ use mathlib.Core.Path.{_≡_}
 use mathlib.Core.Bool.{Bool, true}
 use mathlib.Core.List.{List}
 use Rattle.model.specs.Limits.{pageSize}
-use Rattle.model.specs.reference.Rules.{Translation, found, domainOf, tableWord, State, outcome, Scope, covers, Places, Move, moves, chipOutcome, chipStep, one, kept, trackWord, stale}
+use Rattle.model.specs.reference.Rules.{found, domainOf, tableWord, State, outcome, Scope, covers, Places, Move, moves, chipOutcome, chipStep, one, kept, trackWord, stale}
 use Rattle.model.specs.reference.Runs.{next}
 use Rattle.model.specs.step.Machine.{After}
 use Rattle.model.specs.Invisible.{Session, Accepted, atEnd, checker}

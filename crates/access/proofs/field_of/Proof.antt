@@ -1,6 +1,6 @@
 use Prim.Native.Nat.{ℕ, _-_, _≤_, zero-le}
 use native.Mathlib.Omega.{arith}
-use mathlib.Core.Path.{_≡_, refl, sym, ap, _∙_}
+use mathlib.Core.Path.{_≡_, sym, ap, _∙_}
 use Rattle.model.specs.step.Rights.{fieldAt}
 use Rattle.access.proofs.Laws.{zero-field, next-field, last-field}
 use Rattle.access.proofs.field_of.Statement.{statement}
