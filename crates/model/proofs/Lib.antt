@@ -18,7 +18,5 @@ pub mod Kept
 pub mod Chips
 pub mod ThirdDemand
 pub mod Pinned
-pub mod Noted
-pub mod Domains
 pub mod Refuted
 pub mod CaseTools

@@ -4,18 +4,19 @@ use mathlib.Core.Path.{_≡_, refl, sym, ap, ap₂, _∙_, subst, subst₂}
 use mathlib.Core.Bool.{Bool, true, false, cond, true≢false}
 use mathlib.Core.List.{List, [], _∷_}
 use lib.ListN.{length}
 use Rattle.model.specs.Limits.{pageSize, rowSize}
 use Rattle.model.specs.Numbers.{Result, ok, fault, refused, shown}
 use Rattle.model.specs.reference.Rules.{Translation, found, failed, bits, State, fresh, outcome, carriedOut, Scope, scopeOf, sameScope, flushes, Kept, empty, one, several, wordOf, entryOf, kept, same, addTo, noted, notedIn, wordAfter, contexts, trackWord, hasRow}
 use Rattle.model.specs.reference.Runs.{last, next, checkerRun, isRefused}
 use Rattle.model.specs.step.Machine.{After, started}
 use Rattle.model.specs.Demands.{after}
 use Rattle.model.specs.Invisible.{Session, begun, Accepted, atEnd, checker}
-use Rattle.model.specs.Types.{Operation, Entry}
+use Rattle.model.specs.declared.Operation.{Operation}
+use Rattle.model.specs.declared.Entry.{Entry}
 use Rattle.model.proofs.Entries.{Fits, same-self}
 use Rattle.model.proofs.Calls.{plain, words, unchanged, track-length, start-words, start-track-length, start-lengths}
 use Rattle.model.proofs.Instance.{stateOf}
 use Rattle.model.proofs.Kept.{callAt, not-given, start-not-given, same-has, begins, kept-word, same-scope, suits-own, outcome-range}
 
 -- ── Noting twice is noting once ──
 

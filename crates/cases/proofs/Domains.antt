@@ -7,20 +7,21 @@ use native.Mathlib.Omega.{arith}
 use lib.Dec.{eqb, ltb}
 use lib.ListN.{length, getD}
 use borrow.Author.Tests.{eqb-true, ltb-false}
 use Rattle.model.specs.Limits.{pageSize, rowSize}
 use Rattle.model.specs.Numbers.{Result, shown}
 use Rattle.model.specs.reference.Rules.{Translation, found, failed, inMemory, value, bits, descriptor, globalBy, domainOf, section, largePage, smallPage, pageWord, tableWord, State, setRegisters, effect, outcome, carriedOut, Scope, own, global, covers, flushes, Places, Move, drop, load, move, moves, chipOutcome, chipStep, one, kept, same, differs, notedIn, wordAfter, contexts, rowOf, hasRow, trackWord, stale}
 use Rattle.model.specs.reference.Runs.{isRefused}
 use Rattle.model.specs.Demands.{after}
 use Rattle.model.specs.Invisible.{atEnd, checker}
 use Rattle.model.specs.Domains.{toDomains, under, RegisterForgotten, redomained, withDomain, DomainRemembered}
-use Rattle.model.specs.Types.{Operation, Entry}
+use Rattle.model.specs.declared.Operation.{Operation}
+use Rattle.model.specs.declared.Entry.{Entry}
 use Rattle.model.proofs.BoolLaws.{push}
 use Rattle.model.proofs.Entries.{same-true}
 use Rattle.model.proofs.Calls.{plain, words, track-length}
 use Rattle.model.proofs.Instance.{stateOf}
 use Rattle.model.proofs.Kept.{callAt, not-given}
-use Rattle.model.proofs.Noted.{Noted, left-alone, noted-at-end}
+use Rattle.cases.proofs.Noted.{Noted, left-alone, noted-at-end}
 
 -- ── The track, word by word ──
 
