@@ -1,8 +1,8 @@
-// What access permissions and domains allow, and what an access comes to: a physical address, a fault, or that its page is stale.
+// What an access comes to: a physical address, a fault, or that its page is stale.
 ghost use mathlib.Core.Path.{_≡_};
 ghost use mathlib.Core.Bool.{cond};
 ghost use lib.Dec.{eqb};
-ghost use Rattle.model.specs.step.Rights.{between, kernelRights, userRights, rightsOf, permitted, fieldAt, rulingOf};
+ghost use Rattle.model.specs.step.Rights.{fieldAt};
 ghost use Rattle.model.specs.step.Machine.{sizeOf, permissionFaultOf, domainFaultOf, reached, granted, decided, accessAt};
 use model::Access;
 use model::Entry;
@@ -12,72 +12,6 @@ use model::Purpose;
 use model::Registers;
 use model::Ruling;
 use model::Size;
-
-// Whether x is one of low to high.
-fn between(low: u32, high: u32, x: u32) -> bool
-    ensures { λ r. ⌜ r ≡ between low high x ⌝ }
-{
-    if low <= x {
-        return x <= high;
-    }
-    false
-}
-
-// What the kernel may do where an entry has these permissions: 0 nothing, 1 reading, 2 reading and writing.
-pub fn kernel_rights(ap: u32) -> u32
-    ensures { λ r. ⌜ r ≡ kernelRights ap ⌝ }
-{
-    if between(1, 3, ap) {
-        return 2;
-    }
-    if between(5, 7, ap) {
-        return 1;
-    }
-    0
-}
-
-// What the user may do.
-pub fn user_rights(ap: u32) -> u32
-    ensures { λ r. ⌜ r ≡ userRights ap ⌝ }
-{
-    if ap == 3 {
-        return 2;
-    }
-    if ap == 2 {
-        return 1;
-    }
-    if between(6, 7, ap) {
-        return 1;
-    }
-    0
-}
-
-// What a mode may do.
-pub fn rights_of(ap: u32, mode: u32) -> u32
-    ensures { λ r. ⌜ r ≡ rightsOf ap mode ⌝ }
-{
-    if mode == 0 {
-        return kernel_rights(ap);
-    }
-    user_rights(ap)
-}
-
-// Whether an access for this purpose is permitted in a mode, by an entry's access permissions and its XN bit.
-pub fn permitted(ap: u32, mode: u32, purpose: Purpose, xn: u32) -> bool
-    ensures { λ r. ⌜ r ≡ permitted ap mode purpose xn ⌝ }
-{
-    let rights = rights_of(ap, mode);
-    match purpose {
-        Purpose::ToRead => 1 <= rights,
-        Purpose::ToWrite => 2 <= rights,
-        Purpose::ToFetch => {
-            if 1 <= rights {
-                return xn == 0;
-            }
-            false
-        }
-    }
-}
 
 // The field of a domain in a domain register.
 pub fn field_of(domains: u32, domain: u32) -> u32
@@ -93,22 +27,6 @@ pub fn field_of(domains: u32, domain: u32) -> u32
         i += 1;
     }
     left % 4
-}
-
-// What is said of an access, by the field of the entry's domain: 3 allows everything, 1 what is permitted, and any other field nothing.
-pub fn rule(ap: u32, mode: u32, purpose: Purpose, field: u32, xn: u32) -> Ruling
-    ensures { λ r. ⌜ r ≡ rulingOf ap mode purpose field xn ⌝ }
-{
-    if field == 3 {
-        return Ruling::Allowed;
-    }
-    if field == 1 {
-        if permitted(ap, mode, purpose, xn) {
-            return Ruling::Allowed;
-        }
-        return Ruling::PermissionDenied;
-    }
-    Ruling::DomainDenied
 }
 
 // The size that a field names, where it names one.
@@ -176,7 +94,7 @@ pub fn grant(o: Outcome, r: Registers, purpose: Purpose, size: Size, a: u32, m: 
         Outcome::Failed(f) => Access::Fails(f),
         Outcome::Mapped(e) => {
             let field = field_of(r.domains, e.domain);
-            let said = rule(e.ap, r.mode, purpose, field, e.xn);
+            let said = rulings::rule(e.ap, r.mode, purpose, field, e.xn);
             reach(said, e, size, a, m)
         }
     }

@@ -1,4 +1,4 @@
-//! The images that are walked and on which lists are timed.
+//! The images that are walked, and on which accesses and lists are timed.
 use model::generate;
 use model::random::Random;
 
@@ -57,6 +57,20 @@ pub fn image_of_root_words(word: u32) -> Vec<u8> {
     let mut image = vec![0; 32_768];
     for mib in 0..4 {
         put(&mut image, 4 * mib, word);
+    }
+    image
+}
+
+/// Each word of the second half of `image_of_one`.
+pub const WORD: u32 = 0x1234_5678;
+
+/// An image of one page, of which the root and the table at 0x400 have a first word and no other.
+pub fn image_of_one(first: u32, second: u32) -> Vec<u8> {
+    let mut image = vec![0; 4096];
+    put(&mut image, 0, first);
+    put(&mut image, 0x400, second);
+    for at in (0x800..0x1000).step_by(4) {
+        put(&mut image, at, WORD);
     }
     image
 }

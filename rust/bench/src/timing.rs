@@ -1,6 +1,9 @@
 //! Times, and the rows of the tables that show them.
 use std::time::{Duration, Instant};
 
+/// How many runs of single calls are timed.
+pub const RUNS: usize = 20;
+
 /// The shortest of several runs of each, taken in turn.
 pub fn shortest<const N: usize>(runs: usize, mut each: [&mut dyn FnMut(); N]) -> [Duration; N] {
     let mut least = [Duration::MAX; N];

@@ -1,9 +1,9 @@
 //! Single walks, through the C function and through the model.
-use crate::archive::Archive;
+use crate::archive;
 use crate::images::{
     image_generated, image_of_root_words, image_of_sections, image_of_tables, NG_PAGE,
 };
-use crate::timing::{print_row, shortest};
+use crate::timing::{print_row, shortest, RUNS};
 use model::random::Random;
 use model::walk::{fault, single_walk};
 use std::hint::black_box;
@@ -11,7 +11,6 @@ use std::io;
 use std::path::Path;
 
 const WALKS: usize = 100_000;
-const RUNS: usize = 20;
 
 /// Walks to be timed.
 struct Walks {
@@ -119,7 +118,7 @@ pub fn against_model() {
 /// the model.
 pub fn against_before(before: &Path, after: &Path) -> io::Result<()> {
     // SAFETY: the command is given archives of `rt staticlib walk`.
-    let (before, after) = unsafe { (Archive::load(before)?, Archive::load(after)?) };
+    let (before, after) = unsafe { (archive::walk(before)?, archive::walk(after)?) };
     println!(
         "| 100,000 walks | after | before | ratio | the model | ratio |\n|---|---|---|---|---|---|"
     );

@@ -1,4 +1,5 @@
 //! The machine: registers, what a TLB may remember, and the operations with their checks.
+use crate::permission::{Decision, Place};
 use crate::walk::{entry_of, fault, number, walk, word, Entry, Fault};
 use std::collections::{BTreeMap, BTreeSet};
 
@@ -114,18 +115,6 @@ pub enum Answer {
 /// What stands for the outcome of an operation that translates nothing.
 pub const NOT_TRANSLATED: Result<Entry, Fault> = Err(0);
 
-/// What the kernel and the user may do, by AP.
-const RIGHTS: [[&str; 2]; 8] = [
-    ["", ""],
-    ["rw", ""],
-    ["rw", "r"],
-    ["rw", "rw"],
-    ["", ""],
-    ["r", ""],
-    ["r", "r"],
-    ["r", "r"],
-];
-
 /// What an operation that is carried out does to memory and registers, given how its page is
 /// translated, which only an access looks at.
 pub fn effect(
@@ -150,22 +139,20 @@ pub fn effect(
     Answer::Ok(0)
 }
 
-/// Whether AP and XN let an access through an entry, in a mode.
-fn permits(entry: Entry, mode: u32, kind: Kind) -> bool {
-    let right = if kind == Kind::Write { "w" } else { "r" };
-    let stopped_by_xn = kind == Kind::Fetch && entry.xn;
-    !stopped_by_xn && RIGHTS[entry.ap as usize][mode as usize].contains(right)
-}
-
-/// What the field of an entry's domain, and where it asks for them AP and XN, say of an access.
+/// The fault of an access through an entry that is not allowed, by what maps its page.
 fn grant(entry: Entry, registers: &Registers, kind: Kind) -> Result<(), Fault> {
+    let place = Place {
+        ap: entry.ap,
+        mode: registers.mode,
+        kind,
+        field: field(registers.domains, entry.domain),
+        xn: entry.xn,
+    };
     let told = |section, page| Err(if entry.section { section } else { page });
-    match field(registers.domains, entry.domain) {
-        0 | 2 => told(fault::DOMAIN_SECTION, fault::DOMAIN_PAGE),
-        1 if !permits(entry, registers.mode, kind) => {
-            told(fault::PERMISSION_SECTION, fault::PERMISSION_PAGE)
-        }
-        _ => Ok(()),
+    match place.decision() {
+        Decision::Allowed => Ok(()),
+        Decision::PermissionFault => told(fault::PERMISSION_SECTION, fault::PERMISSION_PAGE),
+        Decision::DomainFault => told(fault::DOMAIN_SECTION, fault::DOMAIN_PAGE),
     }
 }
 

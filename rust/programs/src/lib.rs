@@ -1,6 +1,10 @@
-//! Runs the built programs of the repository under the toolchain's loader and C library.
+//! Runs the built programs of the repository under the toolchain's loader and C library, and its
+//! commands.
+mod stage;
+
+pub use stage::Stage;
 use std::path::{Path, PathBuf};
-use std::process::{Child, Command, Output};
+use std::process::{Child, Command, Output, Stdio};
 use std::sync::atomic::{AtomicUsize, Ordering};
 use std::thread::sleep;
 use std::time::{Duration, Instant, SystemTime};
@@ -51,21 +55,25 @@ fn newest(folder: &Path) -> Option<SystemTime> {
     times.max().flatten()
 }
 
-/// The command `./replay` of the repository. It must not have to build the program first.
-pub fn replay_command() -> Command {
+/// A command at the repository's top, which has the name of its program. It must not have to build
+/// that first.
+pub fn command(name: &str) -> Command {
     let here = repository();
-    let built =
-        written(&here.join("target/bin/replay")).max(written(&here.join("target/replay.checked")));
+    let target = here.join("target");
+    let checked = written(&target.join(format!("{name}.checked")));
+    let built = written(&target.join("bin").join(name)).max(checked);
+    let mut sources = written(&here.join("crates.txt"));
     for krate in fs::read_dir(here.join("crates")).expect("crates/") {
+        let krate = krate.expect("a crate").path();
         for part in ["src", "specs", "proofs"] {
-            let sources = newest(&krate.as_ref().expect("a crate").path().join(part));
-            assert!(
-                sources <= built,
-                "the program is not up to date: run ./replay"
-            );
+            sources = sources.max(newest(&krate.join(part)));
         }
     }
-    Command::new(here.join("replay"))
+    assert!(
+        sources <= built,
+        "the program is not up to date: run ./{name}"
+    );
+    Command::new(here.join(name))
 }
 
 /// A built program, to be run in `folder`.
@@ -120,6 +128,28 @@ impl Drop for Folder {
     }
 }
 
+/// A command with nothing on standard input, whose output and errors are kept.
+pub fn kept(mut command: Command) -> Command {
+    command
+        .stdin(Stdio::null())
+        .stdout(Stdio::piped())
+        .stderr(Stdio::piped());
+    command
+}
+
+/// A command as a shell runs it by a script that says `exec "$@"`, in the same folder.
+pub fn by_shell(script: &str, inner: &Command) -> Command {
+    let mut command = Command::new("sh");
+    command
+        .args(["-c", script, "sh"])
+        .arg(inner.get_program())
+        .args(inner.get_args());
+    if let Some(folder) = inner.get_current_dir() {
+        command.current_dir(folder);
+    }
+    kept(command)
+}
+
 /// Waits for a process that must end by itself, and returns what it wrote, which is less than a pipe holds. One that waits for
 /// input that never comes is ended, and fails.
 pub fn finish(mut child: Child) -> Output {
@@ -132,6 +162,23 @@ pub fn finish(mut child: Child) -> Output {
         sleep(Duration::from_millis(5));
     }
     child.wait_with_output().expect("its output")
+}
+
+/// Status (-1 for a process that a signal ended), standard output and standard error.
+pub type Told = (i32, String, String);
+
+/// What a process that ended has told.
+pub fn told(output: &Output) -> Told {
+    (
+        output.status.code().unwrap_or(-1),
+        String::from_utf8_lossy(&output.stdout).into_owned(),
+        String::from_utf8_lossy(&output.stderr).into_owned(),
+    )
+}
+
+/// Runs a command that must end by itself.
+pub fn ended(command: &mut Command) -> Told {
+    told(&finish(command.spawn().expect("the command runs")))
 }
 
 /// Runs `replay` in a folder on the list in a file, and returns what it printed.

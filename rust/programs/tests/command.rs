@@ -1,37 +1,22 @@
 //! The command `./replay`: only a whole report ends with status 0, 1 or 3.
 use model::generate::image_a;
-use programs::{finish, replay_command, repository, Folder};
-use std::fs::{self, File, Permissions};
+use programs::{ended, finish, kept, repository, told, Folder, Stage, Told};
+use std::fs::{self, File};
 use std::io::Write;
 use std::os::fd::OwnedFd;
-use std::os::unix::fs::{symlink, PermissionsExt};
+use std::os::unix::fs::symlink;
 use std::os::unix::net::UnixStream;
 use std::path::{Path, PathBuf};
-use std::process::{Command, Output, Stdio};
+use std::process::{Command, Stdio};
 
 const NAMES: &str = "op,a,b,c\n";
 const HEADER: &str = "line,op,answer,value\n";
 
 /// The command, with these arguments and nothing on standard input.
 fn command(arguments: &[&Path]) -> Command {
-    let mut command = replay_command();
-    command.args(arguments).stdin(Stdio::null());
-    command.stdout(Stdio::piped()).stderr(Stdio::piped());
+    let mut command = kept(programs::command("replay"));
+    command.args(arguments);
     command
-}
-
-fn ended(command: &mut Command) -> (i32, String, String) {
-    let output = finish(command.spawn().expect("the command runs"));
-    told(&output)
-}
-
-/// Status, standard output and standard error.
-fn told(output: &Output) -> (i32, String, String) {
-    (
-        output.status.code().unwrap_or(-1),
-        String::from_utf8_lossy(&output.stdout).into_owned(),
-        String::from_utf8_lossy(&output.stderr).into_owned(),
-    )
 }
 
 /// A folder with image A and a list.
@@ -42,7 +27,7 @@ fn folder_with(list: &str) -> (Folder, PathBuf, PathBuf) {
     (folder, image, file)
 }
 
-fn of_list(list: &str) -> (i32, String, String) {
+fn of_list(list: &str) -> Told {
     let (_folder, image, file) = folder_with(list);
     ended(&mut command(&[&image, &file]))
 }
@@ -157,11 +142,8 @@ fn streams_and_links() {
     let report = "line,op,answer,value\n2,read,ok,12345678\n";
     let (dash, link) = (Path::new("-"), folder.path().join("link"));
     symlink(repository().join("replay"), &link).expect("a link");
-    let mut linked = Command::new(&link);
-    linked
-        .args([&image, &list])
-        .stdout(Stdio::piped())
-        .stderr(Stdio::piped());
+    let mut linked = kept(Command::new(&link));
+    linked.args([&image, &list]);
     for command in [
         &mut linked,
         command(&[&image, dash]).stdin(File::open(&list).expect("the list")),
@@ -218,75 +200,37 @@ fn output_that_cannot_be_written() {
     assert_eq!(status, 2);
     // A limit on the size of files cuts the report short, as a full disk does.
     let script = "trap '' XFSZ; ulimit -f 40; exec \"$@\" >report";
-    let mut limited = Command::new("bash");
+    let mut limited = kept(Command::new("bash"));
     limited
         .args(["-c", script, "bash"])
         .arg(repository().join("replay"))
         .args([&image, &list])
-        .current_dir(folder.path())
-        .stdout(Stdio::piped())
-        .stderr(Stdio::piped());
+        .current_dir(folder.path());
     assert_eq!(ended(&mut limited).0, 2);
 }
 
-/// A repository of its own, in which a toolchain that proves nothing builds nothing, and whose program prints a text.
-struct Stage(Folder);
+/// A stage of the command, with image A.
+fn stage() -> Stage {
+    let stage = Stage::new("replay", &["docs/FORMATS.md"]);
+    fs::write(stage.at("image.bin"), image_a()).expect("the image");
+    stage
+}
 
-impl Stage {
-    fn new() -> Stage {
-        let folder = Folder::with_image(Some(&image_a()));
-        for inner in ["docs", "crates/one/src", "target/bin", "kit/bin"] {
-            fs::create_dir_all(folder.path().join(inner)).expect("a folder");
-        }
-        let stage = Stage(folder);
-        for file in ["replay", "crates.txt", "docs/FORMATS.md"] {
-            fs::copy(repository().join(file), stage.at(file)).expect("a file of the repository");
-        }
-        let lib = format!("kit/on/{}/toolchain/lib", std::env::consts::ARCH);
-        fs::create_dir_all(stage.at(&lib)).expect("a folder");
-        stage.script(&format!("{lib}/ld-linux-x86-64.so.2"), "cat \"$PRINTS\"");
-        stage.script("kit/bin/rt", "echo \"rt: $*\"; exit 0");
-        stage.script("target/bin/replay", "exit 1");
-        stage
-    }
-
-    fn at(&self, name: &str) -> PathBuf {
-        self.0.path().join(name)
-    }
-
-    fn script(&self, name: &str, text: &str) {
-        let path = self.at(name);
-        fs::write(&path, format!("#!/bin/sh\n{text}\n")).expect("a script");
-        fs::set_permissions(&path, Permissions::from_mode(0o755)).expect("its mode");
-    }
-
-    /// Runs the command on a list with a program that prints this report.
-    fn ended(&self, list: &str, report: &str) -> (i32, String, String) {
-        fs::write(self.at("list"), list).expect("the list");
-        fs::write(self.at("prints"), report).expect("the report");
-        let mut path = self.at("kit/bin").into_os_string();
-        path.push(":");
-        path.push(std::env::var_os("PATH").expect("PATH is set"));
-        let mut command = Command::new(self.at("replay"));
-        command
-            .args([self.at("image.bin"), self.at("list")])
-            .env("RATTLE_HOME", self.at("kit"))
-            .env("PATH", path)
-            .env("PRINTS", self.at("prints"))
-            .stdout(Stdio::piped())
-            .stderr(Stdio::piped());
-        ended(&mut command)
-    }
+/// Runs the command of a stage on a list, with a program that prints this report.
+fn staged(stage: &Stage, list: &str, report: &str) -> Told {
+    fs::write(stage.at("list"), list).expect("the list");
+    let files = [stage.at("image.bin"), stage.at("list")];
+    ended(stage.command(report).args(files))
 }
 
 #[test]
 fn a_report_cut_short() {
-    let stage = Stage::new();
+    let stage = stage();
     let list = with_names("mode,0,0,0\nall,0,0,0\n");
     let whole = format!("{HEADER}2,mode,ok,0\n3,all,ok,0\n");
-    assert_eq!(stage.ended(&list, &whole).0, 0);
+    assert_eq!(staged(&stage, &list, &whole).0, 0);
     for length in 0..whole.len() {
-        let (status, printed, _) = stage.ended(&list, &whole[..length]);
+        let (status, printed, _) = staged(&stage, &list, &whole[..length]);
         assert_eq!((status, printed.as_str()), (2, ""), "{length} bytes");
     }
     for wrong in [
@@ -295,25 +239,22 @@ fn a_report_cut_short() {
         format!("{HEADER}2,mode,ok,0\n3,all,ok,0\n4,all,ok,0\n"),
         format!("{HEADER}1,-,refused,2\n3,all,ok,0\n"),
     ] {
-        assert_eq!(stage.ended(&list, &wrong).0, 2, "{wrong}");
+        assert_eq!(staged(&stage, &list, &wrong).0, 2, "{wrong}");
     }
-    assert_eq!(stage.ended(&list, &format!("{HEADER}2,-,refused,3\n")).0, 3);
-    assert_eq!(
-        stage
-            .ended(&list, &format!("{HEADER}0,start,refused,d\n"))
-            .0,
-        3
-    );
+    for refused in ["2,-,refused,3\n", "0,start,refused,d\n"] {
+        let report = format!("{HEADER}{refused}");
+        assert_eq!(staged(&stage, &list, &report).0, 3, "{report}");
+    }
 }
 
 #[test]
 fn a_failed_build() {
-    let stage = Stage::new();
+    let stage = stage();
     let report = format!("{HEADER}2,mode,ok,0\n");
-    assert_eq!(stage.ended(&with_names("mode,0,0,0\n"), &report).0, 0);
+    assert_eq!(staged(&stage, &with_names("mode,0,0,0\n"), &report).0, 0);
     stage.script("kit/bin/rt", "echo 'rt: replay NOT PROVED'; exit 1");
-    fs::write(stage.at("crates/one/src/newer"), "").expect("a source");
-    let (status, printed, error) = stage.ended(&with_names("mode,0,0,0\n"), &report);
+    stage.add_source("newer");
+    let (status, printed, error) = staged(&stage, &with_names("mode,0,0,0\n"), &report);
     assert_eq!((status, printed.as_str()), (2, ""));
     assert!(error.contains("NOT PROVED"), "{error}");
 }

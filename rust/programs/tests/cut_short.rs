@@ -1,6 +1,6 @@
 //! The program where a read or the writing fails: it says so on standard error, and what was not read to its end gives no report.
 use model::generate::image_a;
-use programs::{finish, program, Folder};
+use programs::{by_shell, finish, kept, program, Folder};
 use std::fs::File;
 use std::io::Write;
 use std::os::fd::OwnedFd;
@@ -18,9 +18,7 @@ fn no_report(output: &Output, says: &str) {
 
 /// `replay` on image A, with its output and errors kept.
 fn replay(folder: &Folder) -> Command {
-    let mut command = program("replay", folder.path());
-    command.stdout(Stdio::piped()).stderr(Stdio::piped());
-    command
+    kept(program("replay", folder.path()))
 }
 
 /// The two ends of a connection, of which the second does not wait where nothing has come.
@@ -34,10 +32,7 @@ fn paused() -> (UnixStream, OwnedFd) {
 fn a_full_device() {
     let folder = Folder::with_image(Some(&image_a()));
     let full = File::options().write(true).open("/dev/full");
-    let child = replay(&folder)
-        .stdin(Stdio::null())
-        .stdout(full.expect("/dev/full"))
-        .spawn();
+    let child = replay(&folder).stdout(full.expect("/dev/full")).spawn();
     let output = finish(child.expect("replay runs"));
     no_report(&output, "the report cannot be written");
 }
@@ -71,13 +66,7 @@ fn a_list_that_pauses_and_ends_in_time() {
 #[test]
 fn a_closed_standard_input() {
     let folder = Folder::with_image(Some(&image_a()));
-    let inner = replay(&folder);
-    let mut command = Command::new("sh");
-    command
-        .args(["-c", "exec \"$@\" <&-", "sh"])
-        .arg(inner.get_program())
-        .args(inner.get_args())
-        .current_dir(folder.path());
+    let mut command = by_shell("exec \"$@\" <&-", &replay(&folder));
     let output = command.output().expect("sh runs");
     no_report(&output, "the list was not read to its end");
 }
@@ -103,7 +92,7 @@ fn a_refused_start_with_an_open_pipe() {
 fn an_image_of_which_no_byte_can_be_read() {
     let folder = Folder::with_image(None);
     std::fs::create_dir(folder.path().join("image.bin")).expect("a folder");
-    let child = replay(&folder).stdin(Stdio::null()).spawn();
+    let child = replay(&folder).spawn();
     let output = finish(child.expect("replay runs"));
     let report = String::from_utf8_lossy(&output.stdout);
     assert_eq!(report, "line,op,answer,value\n0,start,refused,d\n");

@@ -9,7 +9,7 @@ use Rattle.access.proofs.grant.Reads as reads
 use Rattle.access.proofs.grant.Lts as lts
 use Rattle.access.proofs.field_of.Reads as field-of-reads
 use Rattle.access.proofs.reach.Reads as reach-reads
-use Rattle.access.proofs.rule.Reads as rule-reads
+use Rattle.rulings.proofs.rule.Reads as rule-reads
 
 enum-known-o : tie.Need-enum-known-o
 enum-known-o c = search needs

@@ -1,0 +1,2 @@
+-- Laws of the table's look-up.
+pub mod Laws

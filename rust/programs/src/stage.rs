@@ -1,0 +1,72 @@
+//! A command of the repository with a program that prints what it is told to.
+use crate::{kept, repository, Folder};
+use std::env;
+use std::fs::{self, Permissions};
+use std::os::unix::fs::PermissionsExt;
+use std::path::PathBuf;
+use std::process::Command;
+
+/// A repository of its own, in which a toolchain that proves nothing builds nothing, and whose program
+/// prints a text.
+pub struct Stage {
+    name: &'static str,
+    folder: Folder,
+}
+
+impl Stage {
+    /// For a command and the further files of the repository that it reads.
+    pub fn new(name: &'static str, files: &[&str]) -> Stage {
+        let folder = Folder::with_image(None);
+        let stage = Stage { name, folder };
+        let shared = [name, "crates.txt", "scripts/program.sh"];
+        for file in shared.iter().chain(files) {
+            let copied = fs::copy(repository().join(file), stage.made(file));
+            copied.expect("a file of the repository");
+        }
+        let lib = format!("kit/on/{}/toolchain/lib", env::consts::ARCH);
+        stage.script(&format!("{lib}/ld-linux-x86-64.so.2"), "cat \"$PRINTS\"");
+        stage.script("kit/bin/rt", "echo \"rt: $*\"; exit 0");
+        stage.add_source("first");
+        stage.script(&format!("target/bin/{name}"), "exit 1");
+        stage
+    }
+
+    /// Where a file of the stage stands.
+    pub fn at(&self, name: &str) -> PathBuf {
+        self.folder.path().join(name)
+    }
+
+    /// The same, with its folder made.
+    fn made(&self, name: &str) -> PathBuf {
+        let path = self.at(name);
+        let folder = path.parent().expect("a file stands in a folder");
+        fs::create_dir_all(folder).expect("a folder");
+        path
+    }
+
+    /// Writes a program of the stage.
+    pub fn script(&self, name: &str, text: &str) {
+        let path = self.made(name);
+        fs::write(&path, format!("#!/bin/sh\n{text}\n")).expect("a script");
+        fs::set_permissions(&path, Permissions::from_mode(0o755)).expect("its mode");
+    }
+
+    /// Adds a source: what was built before is no longer up to date.
+    pub fn add_source(&self, name: &str) {
+        fs::write(self.made(&format!("crates/one/src/{name}")), "").expect("a source");
+    }
+
+    /// The command, whose program prints this text.
+    pub fn command(&self, text: &str) -> Command {
+        fs::write(self.at("prints"), text).expect("the text");
+        let mut path = self.at("kit/bin").into_os_string();
+        path.push(":");
+        path.push(env::var_os("PATH").expect("PATH is set"));
+        let mut command = kept(Command::new(self.at(self.name)));
+        command
+            .env("RATTLE_HOME", self.at("kit"))
+            .env("PATH", path)
+            .env("PRINTS", self.at("prints"));
+        command
+    }
+}
