@@ -14,13 +14,13 @@ kind-place-requires : tie.Need-kind-place-requires
 kind-place-requires c κs = search needs
 
 mul-at : tie.Need-mul-at
-mul-at c = search needs
+mul-at c = omega (arith, kind-below (c .before .args .purpose))
 
 add-at : tie.Need-add-at
-add-at c = search needs
+add-at c = omega (arith, kind-below (c .before .args .purpose))
 
 mul-at-2 : tie.Need-mul-at-2
-mul-at-2 c = search needs
+mul-at-2 c = omega (arith, kind-below (c .before .args .purpose))
 
 add-at-2 : tie.Need-add-at-2
 add-at-2 c = omega (arith, kind-below (c .before .args .purpose))
