@@ -1,5 +1,5 @@
 -- The cases of the rules, computed by the definitions: those that the rules mark P, cases beyond them, four taken through the third
--- demand, and wrong checkers that it rules out; the sheet of permissions; and what a TLB remembers of domains.
+-- demand, and wrong checkers that it rules out; and what a TLB remembers of domains.
 pub mod Across
 pub mod DomainCases
 pub mod DomainWitness
@@ -11,7 +11,6 @@ pub mod GlobalWitness
 pub mod Noted
 pub mod OldEntry
 pub mod PaperCases
-pub mod SheetCases
 pub mod SplitCases
 pub mod WiderCases
 pub mod Witness

@@ -96,11 +96,11 @@ fn ruling_of(number: u8) -> Ruling
 pub fn rule(ap: u32, mode: u32, purpose: Purpose, field: u32, xn: u32) -> Ruling
     ensures { λ r. ⌜ r ≡ rulingOf ap mode purpose field xn ⌝ }
 {
-    let row = within(ap, 8);
-    let who = flag(mode);
-    let of = within(field, 4);
-    let never = flag(xn);
-    let at = place(row, who, purpose, of, never);
+    let ap_in = within(ap, 8);
+    let mode_in = flag(mode);
+    let field_in = within(field, 4);
+    let xn_in = flag(xn);
+    let at = place(ap_in, mode_in, purpose, field_in, xn_in);
     let said = answer_at(at);
     ruling_of(said)
 }

@@ -2,7 +2,7 @@ use Prim.Native.Nat.{_*_, _-_, _≤_}
 use mathlib.Core.Path.{_≡_, refl, _∙_}
 use native.Mathlib.Omega.{arith}
 use lib.ListN.{length}
-use lib.Seq.{paste, paste-zero}
+use lib.Seq.{paste}
 use borrow.Author.Needs.{needs}
 use Rattle.permissions.specs.Sheet.{sheet}
 use Rattle.permissions.proofs.Places.{answer-at-small}
