@@ -49,10 +49,16 @@ by-rules-at k lt = sym (agree-at answers answers-agree k 3 (omega (arith, answer
 pub table-at : (xs : List ℕ) → agree 0 xs ≡ true → length xs ≡ 384 → (k d : ℕ) → k < 384 → getD xs k d ≡ answerAt k
 table-at xs h n k d lt = agree-at xs h k d (omega arith) ∙ by-rules-at k lt
 
--- the same by the rules of the step, which the code computes
-pub computed : (k : ℕ) → k < 384 → answer (rulingOf (k / 48) (k / 24 % 2) (kindAt (k / 8 % 3)) (k / 2 % 4) (k % 2)) ≡ answerAt k
+-- an answer n that the code computes by the rules of the step
+pub computed : (k : ℕ) {kind : Purpose} {said : Ruling} {n : ℕ} → k < 384 → kind ≡ kindAt (k / 8 % 3) → said ≡ rulingOf (k / 48) (k / 24 % 2) kind (k / 2 % 4) (k % 2) → n ≡ answer said → n ≡ answerAt k
 unfolding byRules
-computed k lt = ap answer (ruling-same (k / 48) (k / 24 % 2) (kindAt (k / 8 % 3)) (k / 2 % 4) (k % 2)) ∙ by-rules-at k lt
+computed k lt of-kind of-said of-number =
+    of-number
+    ∙ ap answer
+    (of-said
+    ∙ ap (λ (x : Purpose). rulingOf (k / 48) (k / 24 % 2) x (k / 2 % 4) (k % 2)) of-kind
+    ∙ ruling-same (k / 48) (k / 24 % 2) (kindAt (k / 8 % 3)) (k / 2 % 4) (k % 2))
+    ∙ by-rules-at k lt
 
 pub past-answers : (k : ℕ) → 384 ≤ k → answerAt k ≡ 3
 unfolding answerAt

@@ -1,5 +1,5 @@
 -- The sheet: what is said of an access, for each AP, mode, kind of access, field of the entry's domain and XN. Its answers are those of the
--- rules (`ruling`), in the order of document 02.
+-- rules (`ruling`), in their order.
 use Prim.Native.Nat.{ℕ, _+_}
 use mathlib.Core.List.{List, [], _∷_, _++_}
 use lib.ListN.{getD}

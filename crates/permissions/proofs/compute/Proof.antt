@@ -1,8 +1,4 @@
-use Prim.Native.Nat.{_/_, _%_}
-use mathlib.Core.Path.{sym, ap, _∙_}
-use Rattle.model.specs.declared.Purpose.{Purpose}
-use Rattle.model.specs.step.Rights.{rulingOf}
-use Rattle.permissions.specs.Sheet.{answer}
+use mathlib.Core.Path.{sym}
 use Rattle.permissions.proofs.Places.{past-answers, computed}
 use borrow.Author.Needs.{needs}
 use Rattle.permissions.proofs.compute.Statement.{statement}
@@ -41,10 +37,7 @@ returns-2 : tie.Need-returns-2
 returns-2 c =
     let said = c .before in
     let kind = said .before in
-    let k = kind .before .before .args .place in
-    c .number-of .ensures
-    ∙ ap answer (said .by-rules .ensures ∙ ap (λ (x : Purpose). rulingOf (k / 48) (k / 24 % 2) x (k / 2 % 4) (k % 2)) (kind .kind-at .ensures))
-    ∙ computed k (search needs)
+    computed (kind .before .before .args .place) (search needs) (kind .kind-at .ensures) (said .by-rules .ensures) (c .number-of .ensures)
 
 pub compute-spec : {M : Type 1} → statement M
 compute-spec =
