@@ -31,11 +31,11 @@ agree-from (x ∷ xs) i h (suc k) d lt =
 agree-at : (xs : List ℕ) → agree 0 xs ≡ true → (k d : ℕ) → k < length xs → getD xs k d ≡ byRules k
 agree-at xs h k d lt = agree-from xs 0 h k d lt ∙ ap byRules (let e : 0 + k ≡ k = omega arith in e)
 
--- one test over all 384 places of the sheet, which is computed
 pub answers-many : length answers ≡ 384
 unfolding answers each
 answers-many = refl
 
+-- one test over all 384 places of the sheet, which is computed
 answers-agree : agree 0 answers ≡ true
 unfolding answers each agree byRules ruling permits rightOf mayRead mayWrite
 answers-agree = refl
