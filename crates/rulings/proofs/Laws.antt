@@ -15,14 +15,7 @@ use Rattle.model.proofs.Rights.{ruling-same}
 use Rattle.permissions.specs.Sheet.{answer, answerAt}
 use Rattle.permissions.specs.Places.{placeOf}
 use Rattle.permissions.proofs.Places.{at-place}
-
--- x where it is below n, else 0
-abbrev pub within : ℕ → ℕ → ℕ
-within n x = cond (ltb x n) x 0
-
--- 0 for 0, else 1
-abbrev pub flag : ℕ → ℕ
-flag x = cond (eqb x 0) 0 1
+use Rattle.rulings.specs.Ranges.{within, flag, told}
 
 pub within-below : (n x : ℕ) → 0 < n → within n x < n
 within-below n x h = go (ltb x n) refl
@@ -82,10 +75,6 @@ ruling-within : (p mode : ℕ) (x : Purpose) (field xn : ℕ) → rulingOf (with
 unfolding rulingOf
 ruling-within p mode x field xn =
     rw (field-within 3 field (omega arith) (omega arith), field-within 1 field (omega arith) (omega arith), permitted-within p mode x xn) refl
-
--- the answer of a number
-abbrev pub told : ℕ → Ruling
-told n = cond (eqb n 0) Allowed (cond (eqb n 1) PermissionDenied DomainDenied)
 
 told-answer : (x : Ruling) → told (answer x) ≡ x
 told-answer Allowed = refl

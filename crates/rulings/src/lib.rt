@@ -1,14 +1,13 @@
 // What is said of an access, looked up in a constant table of the 384 answers. The table is the sheet of permissions, which the program
 // `rights` writes.
 ghost use mathlib.Core.Path.{_≡_};
-ghost use mathlib.Core.Bool.{true, cond};
+ghost use mathlib.Core.Bool.{true};
 ghost use Prim.Native.Nat.{_<_};
-ghost use lib.Dec.{eqb, ltb};
 ghost use lib.ListN.{length};
 ghost use Rattle.model.specs.step.Rights.{rulingOf};
-ghost use Rattle.model.specs.declared.Ruling.the-variants.{Allowed, PermissionDenied, DomainDenied};
 ghost use Rattle.permissions.specs.Sheet.{answerAt};
 ghost use Rattle.permissions.specs.Places.{agree, kindPlace, placeOf};
+ghost use Rattle.rulings.specs.Ranges.{within, flag, told};
 use model::Purpose;
 use model::Ruling;
 use table::TABLE;
@@ -38,7 +37,7 @@ pub fn answer_at(place: usize) -> u8
 
 // x where it is below n, else 0.
 fn within(x: u32, n: u32) -> u32
-    ensures { λ r. ⌜ r ≡ cond (ltb x n) x 0 ⌝ }
+    ensures { λ r. ⌜ r ≡ within n x ⌝ }
 {
     if x < n {
         return x;
@@ -48,7 +47,7 @@ fn within(x: u32, n: u32) -> u32
 
 // 0 for 0, else 1.
 fn flag(x: u32) -> u32
-    ensures { λ r. ⌜ r ≡ cond (eqb x 0) 0 1 ⌝ }
+    ensures { λ r. ⌜ r ≡ flag x ⌝ }
 {
     if x == 0 {
         return 0;
@@ -79,7 +78,7 @@ fn place(ap: u32, mode: u32, purpose: Purpose, field: u32, xn: u32) -> usize
 
 // The answer of this number.
 fn ruling_of(number: u8) -> Ruling
-    ensures { λ r. ⌜ r ≡ cond (eqb number 0) Allowed (cond (eqb number 1) PermissionDenied DomainDenied) ⌝ }
+    ensures { λ r. ⌜ r ≡ told number ⌝ }
 {
     if number == 0 {
         return Ruling::Allowed;

@@ -1,0 +1,2 @@
+-- Numbers brought into the ranges of the table, and what its answers say.
+pub mod Ranges
