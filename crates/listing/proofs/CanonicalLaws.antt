@@ -1,6 +1,6 @@
 -- An accepted list is the text of its operations, so two accepted lists with the same operations are the same bytes; and the text of
 -- operations that have lines is accepted, with those operations. Assumes nothing.
-use Prim.Native.Nat.{ℕ, zero, suc, _+_, _^_, _≤_, _<_}
+use Prim.Native.Nat.{ℕ, zero, suc, _+_, _≤_}
 use mathlib.Core.Path.{_≡_, refl, ap, ap₂, sym, _∙_}
 use mathlib.Core.Bool.{Bool, true, false, cond, true≢false}
 use mathlib.Core.List.{List, [], _∷_, _++_, append-assoc}
@@ -9,11 +9,11 @@ use mathlib.Core.Logic.{_⊎_, inl, inr, ⊎-elim}
 use lib.ListN.{length, length-append}
 use borrow.Author.Tests.{le-ltb}
 use Rattle.text.specs.Split.{has, until, past, same}
-use Rattle.text.specs.Hex.{valueOf, hexOf, digit}
+use Rattle.text.specs.Hex.{valueOf, hexOf}
 use Rattle.text.specs.declared.Value.{Value}
 use Rattle.text.specs.declared.Value.the-variants.{Number, Misspelled}
 use Rattle.text.proofs.SplitLaws.{join, join-parts, has-append, same-equal, same-refl}
-use Rattle.text.proofs.HexLaws.{hex-some, value-text, text-value, hex-spelled, digits-lack}
+use Rattle.text.proofs.HexLaws.{hex-some, value-text, text-value, hex-lacks}
 use Rattle.model.specs.declared.Kind.{Kind}
 use Rattle.model.specs.declared.Kind.the-variants.{Read, Write, Root, Asid, Mode, All, Addr, Ctx, AddrCtx, Fetch, Domain}
 use Rattle.model.specs.declared.Operation.{Operation}
@@ -24,7 +24,7 @@ use Rattle.listing.specs.declared.Line.the-variants.{Op, Refused}
 use Rattle.listing.specs.declared.Values.the-variants.{Numbers, Wrong}
 use Rattle.listing.specs.declared.Reason.{Reason}
 use Rattle.listing.specs.declared.Reason.the-variants.{TooLong, Names, Shape, Spelling, Unknown, Unused}
-use Rattle.names.proofs.NameLaws.{name-some}
+use Rattle.names.proofs.NameLaws.{name-some, comma-no-digit, newline-no-digit}
 use Rattle.names.specs.Names.{comma, newline, names, name, kinds, namedIn, namedOf}
 use Rattle.listing.specs.Line.{zeros, used, opOf, judged, valuesOf, fieldA, fieldB, fieldC, fieldsOf, lineOf, lineText, Valid}
 use Rattle.listing.specs.Whole.{listLimit, tooLong, hasNames, Ending, finished, stopped, Reading, stoppedAt, nothingLeft, readLine, ifEmpty, readLines, readList, Accepts, linesText, listText, AllValid, noMore, more, Canonical}
@@ -191,17 +191,6 @@ name-lacks b w Ctx = ⊎-elim (λ e. rw e) (λ e. rw e) w
 name-lacks b w AddrCtx = ⊎-elim (λ e. rw e) (λ e. rw e) w
 name-lacks b w Fetch = ⊎-elim (λ e. rw e) (λ e. rw e) w
 name-lacks b w Domain = ⊎-elim (λ e. rw e) (λ e. rw e) w
-
-hex-lacks : (b n : ℕ) → digit b ≡ 16 → n < 2 ^ 32 → has b (hexOf n) ≡ false
-hex-lacks b n e h = digits-lack b (hexOf n) e (hex-spelled n h .2)
-
-comma-no-digit : digit comma ≡ 16
-unfolding digit
-comma-no-digit = refl
-
-newline-no-digit : digit newline ≡ 16
-unfolding digit
-newline-no-digit = refl
 
 -- the line of an operation, and what follows it
 module _ (o : Operation) (v : Valid o) where

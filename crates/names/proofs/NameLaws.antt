@@ -1,15 +1,16 @@
 -- Laws of the names: one comparison, and their lengths. Assumes nothing.
 use Prim.Native.Nat.{ℕ, _≤_}
-use mathlib.Core.Path.{_≡_}
+use mathlib.Core.Path.{_≡_, refl}
 use mathlib.Core.Bool.{true, false}
 use mathlib.Core.List.{List, _∷_}
 use native.Mathlib.Omega.{arith}
 use lib.ListN.{length}
 use Rattle.text.specs.Split.{same}
+use Rattle.text.specs.Hex.{digit}
 use Rattle.model.specs.declared.Kind.{Kind}
 use Rattle.model.specs.declared.Kind.the-variants.{Read, Write, Root, Asid, Mode, All, Addr, Ctx, AddrCtx, Fetch, Domain}
 use Rattle.names.specs.declared.Named.the-variants.{Known}
-use Rattle.names.specs.Names.{name, namedIn}
+use Rattle.names.specs.Names.{comma, newline, name, namedIn}
 
 -- one comparison with a name
 pub named-hit : (k : Kind) (ks : List Kind) (s : List ℕ) → same s (name k) ≡ true → namedIn (k ∷ ks) s ≡ Known k
@@ -46,3 +47,12 @@ name-some Ctx = omega arith
 name-some AddrCtx = omega arith
 name-some Fetch = omega arith
 name-some Domain = omega arith
+
+-- a separator is no digit
+pub comma-no-digit : digit comma ≡ 16
+unfolding digit
+comma-no-digit = refl
+
+pub newline-no-digit : digit newline ≡ 16
+unfolding digit
+newline-no-digit = refl

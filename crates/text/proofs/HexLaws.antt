@@ -196,6 +196,27 @@ value-text s n h = go (spelled s) refl h
         sym (spell-text s (p .0) (p .1) (p .2)) ∙ ap hexOf q
     go false e k = let z : _≡_ {A = ℕ} 0 1 = cc in absurd (omega arith)
 
+-- a value has 32 bits
+number-bound : (v k : ℕ) (s : List ℕ) → v < 16 ^ k → digits s ≡ true → number v s < 16 ^ (k + length s)
+unfolding number
+number-bound v k [] h d = subst (λ (n : ℕ). v < 16 ^ n) (let e : k ≡ k + 0 = omega arith in e) h
+number-bound v k (x ∷ xs) h d =
+    let q = digits-head x xs d in
+    let e : k + 1 + length xs ≡ k + suc (length xs) = omega arith in
+    subst (λ (n : ℕ). number (v * 16 + digit x) xs < 16 ^ n) e (number-bound (v * 16 + digit x) (k + 1) xs (bound-more v (digit x) k h (q .0)) (q .1))
+
+pub value-bound : (s : List ℕ) (n : ℕ) → valueOf s ≡ Number n → n < 2 ^ 32
+unfolding valueOf
+value-bound s n h = go (spelled s) refl h
+  where
+    go : (t : Bool) → spelled s ≡ t → cond t (Number (number 0 s)) Misspelled ≡ Number n → n < 2 ^ 32
+    go true e k =
+        let p = spelled-parts s e in
+        let q : number 0 s ≡ n = cc in
+        let b : number 0 s < 16 ^ (0 + length s) = number-bound 0 0 s (omega arith) (p .2) in
+        subst (λ (m : ℕ). m < 2 ^ 32) q (bound-fits (number 0 s) (0 + length s) b (omega (arith, p .0)))
+    go false e k = let z : _≡_ {A = ℕ} 0 1 = cc in absurd (omega arith)
+
 -- and the other way: what the printer spells is read as the number
 number-spell : (k n : ℕ) (acc : List ℕ) → n < 16 ^ k → number 0 (spell k n acc) ≡ number n acc
 unfolding number spell
@@ -275,6 +296,10 @@ digits-lack b (x ∷ xs) e h =
     let q = digits-head x xs h in
     let n : x ≡ b → ⊥ = λ p. omega (arith, q .0, ap digit p) in
     rw (ne-eqb x b n) (digits-lack b xs e (q .1))
+
+-- a number holds no byte that is no digit
+pub hex-lacks : (b n : ℕ) → digit b ≡ 16 → n < 2 ^ 32 → has b (hexOf n) ≡ false
+hex-lacks b n e h = digits-lack b (hexOf n) e (hex-spelled n h .2)
 
 -- a number has a digit
 spell-some : (k n : ℕ) (acc : List ℕ) → 1 ≤ length (spell (suc k) n acc)
