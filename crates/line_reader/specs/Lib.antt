@@ -1,0 +1,2 @@
+-- The reader of lines, as bytes are fed to it.
+pub mod Reading

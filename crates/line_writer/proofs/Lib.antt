@@ -1,0 +1,3 @@
+-- Laws of writing lines, and the front of the buffer.
+pub mod Laws
+pub mod Front

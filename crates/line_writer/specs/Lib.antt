@@ -1,0 +1,2 @@
+-- What a call that writes the lines of an image gives.
+pub mod Call
