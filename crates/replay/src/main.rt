@@ -3,67 +3,17 @@
 ghost use mathlib.Core.Path.{_≡_};
 ghost use lib.ListN.{length};
 ghost use Rattle.io.specs.Counts.{Counts};
+use input::Got;
 use libc::STDIN_FILENO;
 use libc::STDOUT_FILENO;
 use report::Told;
-
-// What reading brought: how many bytes stand in the buffer, and whether that is all that the buffer or the file has.
-struct Got {
-    count: usize,
-    whole: bool,
-}
-
-// Whether a file has no byte left, and one more read says so.
-fn at_end(fd: i32) -> bool {
-    let mut byte = [0u8; 1];
-    libc::read(fd, &mut byte) == 0
-}
-
-// Reads into buf until it is full or the file ends.
-fn read_whole(fd: i32, buf: &mut [u8]) -> Got
-    ensures { λ r. ⌜ Counts (r .count) (now (buf .exit)) ⌝ }
-{
-    let n = io::read_full(fd, buf);
-    if n == buf.len() {
-        return Got {
-            count: n,
-            whole: true,
-        };
-    }
-    Got {
-        count: n,
-        whole: at_end(fd),
-    }
-}
-
-// The image: one that is missing, or of which no byte can be read, has none.
-fn read_image(buf: &mut [u8]) -> Got
-    ensures { λ r. ⌜ Counts (r .count) (now (buf .exit)) ⌝ }
-{
-    let fd = os::open_read(b"image.bin");
-    if fd < 0 {
-        return Got {
-            count: 0,
-            whole: true,
-        };
-    }
-    let got = read_whole(fd, buf);
-    libc::close(fd);
-    if got.count == 0 {
-        return Got {
-            count: 0,
-            whole: true,
-        };
-    }
-    got
-}
 
 // The list, which is looked at only after a start that is accepted.
 fn read_list(wanted: bool, buf: &mut [u8]) -> Got
     ensures { λ r. ⌜ Counts (r .count) (now (buf .exit)) ⌝ }
 {
     if wanted {
-        return read_whole(STDIN_FILENO, buf);
+        return input::read_whole(STDIN_FILENO, buf);
     }
     Got {
         count: 0,
@@ -110,7 +60,7 @@ fn print_report(image: &mut [u8], n: usize, list: &[u8], k: usize) {
 
 fn main() {
     let mut image = image_buffer();
-    let got = read_image(&mut image);
+    let got = input::read_image(&mut image);
     if !got.whole {
         os::fail(b"replay: image.bin was not read to its end");
         return;
