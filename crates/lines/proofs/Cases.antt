@@ -46,13 +46,25 @@ shapeCases =
     ∷ lines "ffc,1" "2,12\n" ∷ lines "0,1\nffc,1" "3,12\n" ∷ lines "ffc,1\n\n" "3,12\n"
     ∷ []
 
--- 19 on a line: order, alignment, a zero word that bytes follow; 18 before it on a line, and an earlier line before a later one
-abbrev orderCases : List (List ℕ × List ℕ)
-orderCases =
-    lines "8,1\n8,1\n" "3,13\n" ∷ lines "8,1\n4,1\n" "3,13\n" ∷ lines "8,1\n0,1\n" "3,13\n" ∷ lines "8,1\n9,1\n" "3,13\n"
-    ∷ lines "1,1\n" "2,13\n" ∷ lines "2,1\n" "2,13\n" ∷ lines "3,1\n" "2,13\n" ∷ lines "ffd,1\n" "2,13\n" ∷ lines "ffe,1\n" "2,13\n"
-    ∷ lines "0,0\nffc,1\n" "2,13\n" ∷ lines "0,1\n4,0\nffc,1\n" "3,13\n" ∷ lines "ffc,0\nx" "2,13\n" ∷ lines "ffc,0\n\n" "2,13\n" ∷ lines "0,0\nzz\n" "2,13\n"
-    ∷ lines "8,1\n4,z\n" "3,12\n" ∷ lines "2,01\n" "2,12\n" ∷ lines "2,1\nzz\n" "2,13\n" ∷ lines "zz\n2,1\n" "2,12\n" ∷ lines "8,0" "2,12\n"
+-- 19: addresses that do not rise
+abbrev riseCases : List (List ℕ × List ℕ)
+riseCases = lines "8,1\n8,1\n" "3,13\n" ∷ lines "8,1\n4,1\n" "3,13\n" ∷ lines "8,1\n0,1\n" "3,13\n" ∷ lines "0,1\n0,1\n" "3,13\n" ∷ lines "0,1\n4,1\n4,2\n" "4,13\n" ∷ []
+
+-- 19: an address that is no multiple of 4
+abbrev multipleCases : List (List ℕ × List ℕ)
+multipleCases = lines "1,1\n" "2,13\n" ∷ lines "2,1\n" "2,13\n" ∷ lines "3,1\n" "2,13\n" ∷ lines "8,1\n9,1\n" "3,13\n" ∷ lines "ffd,1\n" "2,13\n" ∷ lines "ffe,1\n" "2,13\n" ∷ []
+
+-- 19: a zero word on a line that bytes follow, whatever they are
+abbrev zeroCases : List (List ℕ × List ℕ)
+zeroCases =
+    lines "0,0\nffc,1\n" "2,13\n" ∷ lines "0,1\n4,0\nffc,1\n" "3,13\n" ∷ lines "ffc,0\nx" "2,13\n" ∷ lines "ffc,0\n\n" "2,13\n" ∷ lines "0,0\nzz\n" "2,13\n"
+    ∷ []
+
+-- 18 before 19 on a line, and an earlier line before a later one
+abbrev formCases : List (List ℕ × List ℕ)
+formCases =
+    lines "8,1\n4,z\n" "3,12\n" ∷ lines "2,01\n" "2,12\n" ∷ lines "8,1\n4,1" "3,12\n" ∷ lines "8,0" "2,12\n"
+    ∷ lines "2,1\nzz\n" "2,13\n" ∷ lines "zz\n2,1\n" "2,12\n"
     ∷ []
 
 -- 19 at line 0: the length, tested last
@@ -84,26 +96,74 @@ corners = gaps ((0, 0 ∷ 0 ∷ 0 ∷ 1 ∷ 0 ∷ 0 ∷ 2 ∷ 0 ∷ 0 ∷ 3 ∷ 
 abbrev linesCorners : List ℕ
 linesCorners = quoted "at,word\n0,1000000\n4,20000\n8,300\nc,4\nffc,ffffffff\n"
 
--- images and their lines, both ways; images whose length does not fit
+-- images and their lines, both ways
 abbrev imageCases : List (List ℕ × List ℕ)
-imageCases =
-    (output (linesOf limit imageA), linesA) ∷ (output (imageOf limit linesA), imageA)
-    ∷ (output (linesOf limit corners), linesCorners) ∷ (output (imageOf limit linesCorners), corners)
-    ∷ (output (linesOf limit (replicate 4096 0)), quoted "at,word\nffc,0\n") ∷ (output (imageOf limit (quoted "at,word\nffc,0\n")), replicate 4096 0)
-    ∷ (output (linesOf limit []), quoted "0,13\n") ∷ (output (linesOf limit (replicate 4095 1)), quoted "0,13\n") ∷ (output (linesOf limit (replicate 4100 1)), quoted "0,13\n")
-    ∷ (output (linesOf limit (replicate 36864 1)), quoted "0,13\n") ∷ (output (linesOf 36864 (replicate 36864 0)), quoted "at,word\n8ffc,0\n")
-    ∷ (output (imageOf 36864 (quoted "at,word\n8ffc,0\n")), replicate 36864 0)
+imageCases = (output (linesOf limit imageA), linesA) ∷ (output (imageOf limit linesA), imageA) ∷ []
+
+-- the order of a word's bytes, both ways
+abbrev orderCases : List (List ℕ × List ℕ)
+orderCases = (output (linesOf limit corners), linesCorners) ∷ (output (imageOf limit linesCorners), corners) ∷ []
+
+-- the last word always has its line, both ways; the limit is an argument
+abbrev lastCases : List (List ℕ × List ℕ)
+lastCases =
+    (output (linesOf limit (replicate 4096 0)), quoted "at,word\nffc,0\n") ∷ (output (imageOf limit (quoted "at,word\nffc,0\n")), replicate 4096 0)
+    ∷ (output (linesOf 36864 (replicate 36864 0)), quoted "at,word\n8ffc,0\n") ∷ (output (imageOf 36864 (quoted "at,word\n8ffc,0\n")), replicate 36864 0)
     ∷ []
 
+-- images whose length does not fit
+abbrev misfitCases : List (List ℕ × List ℕ)
+misfitCases =
+    (output (linesOf limit []), quoted "0,13\n") ∷ (output (linesOf limit (replicate 4095 1)), quoted "0,13\n") ∷ (output (linesOf limit (replicate 4100 1)), quoted "0,13\n")
+    ∷ (output (linesOf limit (replicate 36864 1)), quoted "0,13\n")
+    ∷ []
+
+-- ── The theorems ──
+pub the-names : allSame nameCases ≡ true
+unfolding has until past same digit digits number lean spelled valueOf glyph spell hexOf quotedFrom quoted memoryFits lineOf pairText hasLine wordsFrom imageFrom endFrom lengthFits linesText textOf linesOf falls unaligned zeroBefore refuses19 readLines hasNames readAll imageOf
+the-names = refl
+
+pub shape-and-spelling : allSame shapeCases ≡ true
+unfolding has until past same digit digits number lean spelled valueOf glyph spell hexOf quotedFrom quoted memoryFits lineOf pairText hasLine wordsFrom imageFrom endFrom lengthFits linesText textOf linesOf falls unaligned zeroBefore refuses19 readLines hasNames readAll imageOf
+shape-and-spelling = refl
+
+pub addresses-rise : allSame riseCases ≡ true
+unfolding has until past same digit digits number lean spelled valueOf glyph spell hexOf quotedFrom quoted memoryFits lineOf pairText hasLine wordsFrom imageFrom endFrom lengthFits linesText textOf linesOf falls unaligned zeroBefore refuses19 readLines hasNames readAll imageOf
+addresses-rise = refl
+
+pub multiples-of-4 : allSame multipleCases ≡ true
+unfolding has until past same digit digits number lean spelled valueOf glyph spell hexOf quotedFrom quoted memoryFits lineOf pairText hasLine wordsFrom imageFrom endFrom lengthFits linesText textOf linesOf falls unaligned zeroBefore refuses19 readLines hasNames readAll imageOf
+multiples-of-4 = refl
+
+pub zero-words : allSame zeroCases ≡ true
+unfolding has until past same digit digits number lean spelled valueOf glyph spell hexOf quotedFrom quoted memoryFits lineOf pairText hasLine wordsFrom imageFrom endFrom lengthFits linesText textOf linesOf falls unaligned zeroBefore refuses19 readLines hasNames readAll imageOf
+zero-words = refl
+
+pub form-before-order : allSame formCases ≡ true
+unfolding has until past same digit digits number lean spelled valueOf glyph spell hexOf quotedFrom quoted memoryFits lineOf pairText hasLine wordsFrom imageFrom endFrom lengthFits linesText textOf linesOf falls unaligned zeroBefore refuses19 readLines hasNames readAll imageOf
+form-before-order = refl
+
+pub length-last : allSame lengthCases ≡ true
+unfolding has until past same digit digits number lean spelled valueOf glyph spell hexOf quotedFrom quoted memoryFits lineOf pairText hasLine wordsFrom imageFrom endFrom lengthFits linesText textOf linesOf falls unaligned zeroBefore refuses19 readLines hasNames readAll imageOf
+length-last = refl
+
+pub low-byte-first : allSame orderCases ≡ true
+unfolding has until past same digit digits number lean spelled valueOf glyph spell hexOf quotedFrom quoted memoryFits lineOf pairText hasLine wordsFrom imageFrom endFrom lengthFits linesText textOf linesOf falls unaligned zeroBefore refuses19 readLines hasNames readAll imageOf
+low-byte-first = refl
+
+pub last-word : allSame lastCases ≡ true
+unfolding has until past same digit digits number lean spelled valueOf glyph spell hexOf quotedFrom quoted memoryFits lineOf pairText hasLine wordsFrom imageFrom endFrom lengthFits linesText textOf linesOf falls unaligned zeroBefore refuses19 readLines hasNames readAll imageOf
+last-word = refl
+
+pub misfits : allSame misfitCases ≡ true
+unfolding has until past same digit digits number lean spelled valueOf glyph spell hexOf quotedFrom quoted memoryFits lineOf pairText hasLine wordsFrom imageFrom endFrom lengthFits linesText textOf linesOf falls unaligned zeroBefore refuses19 readLines hasNames readAll imageOf
+misfits = refl
+
+pub image-A : allSame imageCases ≡ true
+unfolding has until past same digit digits number lean spelled valueOf glyph spell hexOf quotedFrom quoted memoryFits lineOf pairText hasLine wordsFrom imageFrom endFrom lengthFits linesText textOf linesOf falls unaligned zeroBefore refuses19 readLines hasNames readAll imageOf
+image-A = refl
+
 -- a refusal is no image, whatever its bytes
-pub refused-cases : (imageOf limit [] ≡ refusal 1 18) × (imageOf limit (quoted "at,word\n") ≡ refusal 0 19) × (linesOf limit [] ≡ refusal 0 19)
+pub refusals : (imageOf limit [] ≡ refusal 1 18) × (imageOf limit (quoted "at,word\n") ≡ refusal 0 19) × (linesOf limit [] ≡ refusal 0 19)
 unfolding has until past same digit digits number lean spelled valueOf glyph spell hexOf quotedFrom quoted memoryFits lineOf pairText hasLine wordsFrom imageFrom endFrom lengthFits linesText textOf linesOf falls unaligned zeroBefore refuses19 readLines hasNames readAll imageOf
-refused-cases = (refl, refl, refl)
-
-pub line-cases : allSame (nameCases ++ (shapeCases ++ (orderCases ++ lengthCases))) ≡ true
-unfolding has until past same digit digits number lean spelled valueOf glyph spell hexOf quotedFrom quoted memoryFits lineOf pairText hasLine wordsFrom imageFrom endFrom lengthFits linesText textOf linesOf falls unaligned zeroBefore refuses19 readLines hasNames readAll imageOf
-line-cases = refl
-
-pub image-cases : allSame imageCases ≡ true
-unfolding has until past same digit digits number lean spelled valueOf glyph spell hexOf quotedFrom quoted memoryFits lineOf pairText hasLine wordsFrom imageFrom endFrom lengthFits linesText textOf linesOf falls unaligned zeroBefore refuses19 readLines hasNames readAll imageOf
-image-cases = refl
+refusals = (refl, refl, refl)
