@@ -443,6 +443,19 @@ fn rename(random: &mut Random, list: &mut Vec<u8>) {
     list.splice(start..start + name, random.pick(&NEAR_NAMES).bytes());
 }
 
+/// Damages a text at a byte: changes it, puts another before it, takes it away, or ends the text
+/// before it. A way of 5 or more leaves the text as it is.
+pub fn damage(random: &mut Random, bytes: &mut Vec<u8>, at: usize, way: u64) {
+    match way {
+        0 => bytes[at] = random.word() as u8,
+        1 => bytes[at] = *random.pick(b",\n0Aafgx-+ "),
+        2 => bytes.insert(at, *random.pick(b",\n0Aaf1")),
+        3 => bytes.truncate(at),
+        4 => drop(bytes.remove(at)),
+        _ => (),
+    }
+}
+
 /// A list for the program, which has 8 contexts, and sometimes something wrong with its bytes.
 pub fn list(random: &mut Random, memory: u32) -> Vec<u8> {
     let length = random.below(120);
@@ -462,14 +475,9 @@ pub fn list(random: &mut Random, memory: u32) -> Vec<u8> {
     let within = if random.one_in(6) { 9 } else { bytes.len() };
     let at = random.below(within as u64) as usize;
     match random.below(17) {
-        0 => bytes[at] = random.word() as u8,
-        1 => bytes[at] = *random.pick(b",\n0Aafgx-+ "),
-        2 => bytes.insert(at, *random.pick(b",\n0Aaf1")),
-        3 => bytes.truncate(at),
-        4 => drop(bytes.remove(at)),
         5 => bytes.resize(65_537 + random.below(3) as usize, b'\n'),
         6 => rename(random, &mut bytes),
-        _ => (),
+        way => damage(random, &mut bytes, at, way),
     }
     bytes
 }

@@ -4,7 +4,8 @@ use crate::machine::{Answer, Machine, Operation, KINDS};
 /// Why a line is turned back, by its number.
 pub type Refusal = u32;
 
-fn value(text: &str) -> Option<u32> {
+/// The number that a value spells.
+pub fn value(text: &str) -> Option<u32> {
     let number = u32::from_str_radix(text, 16).ok()?;
     (format!("{number:x}") == text).then_some(number)
 }

@@ -1,8 +1,13 @@
 //! Runs the built programs of the repository under the toolchain's loader and C library, and its
 //! commands.
 mod stage;
+mod streams;
 
 pub use stage::Stage;
+pub use streams::{
+    closed_pipe, fed, feed, full_device, paused, started, unwritable, with_open_pipe,
+};
+
 use std::path::{Path, PathBuf};
 use std::process::{Child, Command, Output, Stdio};
 use std::sync::atomic::{AtomicUsize, Ordering};
@@ -181,20 +186,56 @@ pub fn ended(command: &mut Command) -> Told {
     told(&finish(command.spawn().expect("the command runs")))
 }
 
+/// What a process tells that prints this and says nothing.
+pub fn prints(text: &str) -> Told {
+    (0, text.to_string(), String::new())
+}
+
+/// That a process ended by itself, printed nothing, and said this first on standard error.
+pub fn only_says((status, printed, error): &Told, says: &str) {
+    assert_ne!(*status, -1, "a signal ended it");
+    assert_eq!(printed, "");
+    assert!(error.starts_with(says), "standard error: {error}");
+}
+
+/// Runs a program in a folder with a file on standard input, and returns what it printed.
+fn printed(name: &str, folder: &Folder, input: &Path) -> Vec<u8> {
+    let output = program(name, folder.path())
+        .stdin(fs::File::open(input).expect("the input"))
+        .output()
+        .unwrap_or_else(|error| panic!("{name}: {error}"));
+    let error = String::from_utf8_lossy(&output.stderr);
+    assert_eq!((output.status.code(), &*error), (Some(0), ""), "{name}");
+    output.stdout
+}
+
+/// The same with these bytes on standard input.
+fn printed_on(name: &str, folder: &Folder, bytes: &[u8]) -> Vec<u8> {
+    let input = folder.path().join("input");
+    fs::write(&input, bytes).expect("the input");
+    printed(name, folder, &input)
+}
+
 /// Runs `replay` in a folder on the list in a file, and returns what it printed.
 pub fn replay_in(folder: &Folder, list: &Path) -> Vec<u8> {
-    let output = program("replay", folder.path())
-        .stdin(fs::File::open(list).expect("the list"))
-        .output()
-        .expect("replay runs");
-    assert!(output.status.success(), "replay: {:?}", output.status);
-    output.stdout
+    printed("replay", folder, list)
 }
 
 /// Runs `replay` on a list and, where there is one, an image, and returns what it printed.
 pub fn replay(list: &[u8], image: Option<&[u8]>) -> Vec<u8> {
-    let folder = Folder::with_image(image);
-    let file = folder.path().join("list");
-    fs::write(&file, list).expect("the list");
-    replay_in(&folder, &file)
+    printed_on("replay", &Folder::with_image(image), list)
+}
+
+/// Runs `to_lines` on an image, where there is one, and returns what it printed.
+pub fn to_lines(image: Option<&[u8]>) -> Vec<u8> {
+    printed(
+        "to_lines",
+        &Folder::with_image(image),
+        Path::new("/dev/null"),
+    )
+}
+
+/// Runs `to_image` on lines, and returns what it printed.
+pub fn to_image(lines: &[u8]) -> Vec<u8> {
+    printed_on("to_image", &Folder::with_image(None), lines)
 }

@@ -7,7 +7,7 @@ use std::path::PathBuf;
 use std::process::Command;
 
 /// A repository of its own, in which a toolchain that proves nothing builds nothing, and whose program
-/// prints a text.
+/// prints a text. A command that uses a second program has to be given it.
 pub struct Stage {
     name: &'static str,
     folder: Folder,
@@ -24,10 +24,11 @@ impl Stage {
             copied.expect("a file of the repository");
         }
         let lib = format!("kit/on/{}/toolchain/lib", env::consts::ARCH);
-        stage.script(&format!("{lib}/ld-linux-x86-64.so.2"), "cat \"$PRINTS\"");
+        let loader = "LOADED=yes exec \"$3\"";
+        stage.script(&format!("{lib}/ld-linux-x86-64.so.2"), loader);
         stage.script("kit/bin/rt", "echo \"rt: $*\"; exit 0");
         stage.add_source("first");
-        stage.script(&format!("target/bin/{name}"), "exit 1");
+        stage.add_program(name, "cat \"$PRINTS\"");
         stage
     }
 
@@ -51,13 +52,19 @@ impl Stage {
         fs::set_permissions(&path, Permissions::from_mode(0o755)).expect("its mode");
     }
 
+    /// Adds a program, which the loader alone can run.
+    pub fn add_program(&self, name: &str, text: &str) {
+        let text = format!("[ \"${{LOADED:-}}\" = yes ] || exit 1\n{text}");
+        self.script(&format!("target/bin/{name}"), &text);
+    }
+
     /// Adds a source: what was built before is no longer up to date.
     pub fn add_source(&self, name: &str) {
         fs::write(self.made(&format!("crates/one/src/{name}")), "").expect("a source");
     }
 
     /// The command, whose program prints this text.
-    pub fn command(&self, text: &str) -> Command {
+    pub fn command(&self, text: impl AsRef<[u8]>) -> Command {
         fs::write(self.at("prints"), text).expect("the text");
         let mut path = self.at("kit/bin").into_os_string();
         path.push(":");

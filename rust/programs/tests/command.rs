@@ -1,13 +1,14 @@
 //! The command `./replay`: only a whole report ends with status 0, 1 or 3.
 use model::generate::image_a;
-use programs::{ended, finish, kept, repository, told, Folder, Stage, Told};
+use programs::{
+    closed_pipe, ended, finish, full_device, kept, paused, repository, told, with_open_pipe,
+    Folder, Stage, Told,
+};
 use std::fs::{self, File};
 use std::io::Write;
-use std::os::fd::OwnedFd;
 use std::os::unix::fs::symlink;
-use std::os::unix::net::UnixStream;
 use std::path::{Path, PathBuf};
-use std::process::{Command, Stdio};
+use std::process::Command;
 
 const NAMES: &str = "op,a,b,c\n";
 const HEADER: &str = "line,op,answer,value\n";
@@ -168,35 +169,25 @@ fn streams_and_links() {
 fn a_refused_start_with_an_open_pipe() {
     let (_folder, image, _list) = folder_with(NAMES);
     fs::write(&image, vec![0; 5_000]).expect("the image");
-    let mut child = command(&[&image, Path::new("-")])
-        .stdin(Stdio::piped())
-        .spawn()
-        .expect("the command runs");
-    let held = child.stdin.take();
-    assert_eq!(told(&finish(child)).0, 3);
-    drop(held);
+    let told = with_open_pipe(&mut command(&[&image, Path::new("-")]), b"");
+    assert_eq!(told.0, 3);
 }
 
 #[test]
 fn a_list_that_pauses() {
     let (_folder, image, _list) = folder_with(NAMES);
-    let (mut ours, theirs) = UnixStream::pair().expect("a connection");
-    theirs.set_nonblocking(true).expect("no waiting");
+    let (mut ours, theirs) = paused();
     ours.write_all(b"op,a,b,c\nread,1000,4,0\n").expect("lines");
-    let (status, report, error) =
-        ended(command(&[&image, Path::new("-")]).stdin(OwnedFd::from(theirs)));
+    let (status, report, error) = ended(command(&[&image, Path::new("-")]).stdin(theirs));
     assert_eq!((status, report.as_str()), (2, ""), "{error}");
 }
 
 #[test]
 fn output_that_cannot_be_written() {
     let (folder, image, list) = folder_with(&stale_at_3003());
-    let full = File::options().write(true).open("/dev/full");
-    let (status, _, _) = ended(command(&[&image, &list]).stdout(full.expect("/dev/full")));
+    let (status, _, _) = ended(command(&[&image, &list]).stdout(full_device()));
     assert_eq!(status, 2);
-    let (ours, theirs) = UnixStream::pair().expect("a connection");
-    drop(ours);
-    let (status, _, _) = ended(command(&[&image, &list]).stdout(OwnedFd::from(theirs)));
+    let (status, _, _) = ended(command(&[&image, &list]).stdout(closed_pipe()));
     assert_eq!(status, 2);
     // A limit on the size of files cuts the report short, as a full disk does.
     let script = "trap '' XFSZ; ulimit -f 40; exec \"$@\" >report";
@@ -211,7 +202,7 @@ fn output_that_cannot_be_written() {
 
 /// A stage of the command, with image A.
 fn stage() -> Stage {
-    let stage = Stage::new("replay", &["docs/FORMATS.md"]);
+    let stage = Stage::new("replay", &["scripts/images.sh", "docs/FORMATS.md"]);
     fs::write(stage.at("image.bin"), image_a()).expect("the image");
     stage
 }

@@ -1,40 +1,26 @@
 //! The program where a read or the writing fails: it says so on standard error, and what was not read to its end gives no report.
 use model::generate::image_a;
-use programs::{by_shell, finish, kept, program, Folder};
-use std::fs::File;
+use programs::{
+    by_shell, ended, finish, full_device, kept, only_says, paused, program, with_open_pipe, Folder,
+};
 use std::io::Write;
 use std::os::fd::OwnedFd;
 use std::os::unix::net::UnixStream;
-use std::process::{Command, Output, Stdio};
+use std::process::Command;
 
 const LIST: &[u8] = b"op,a,b,c\nread,1000,4,0\n";
-
-/// Standard output, which must be empty, and standard error, which must say this.
-fn no_report(output: &Output, says: &str) {
-    let error = String::from_utf8_lossy(&output.stderr);
-    assert_eq!(String::from_utf8_lossy(&output.stdout), "");
-    assert!(error.contains(says), "standard error: {error}");
-}
+const NOT_READ: &str = "replay: the list was not read to its end";
 
 /// `replay` on image A, with its output and errors kept.
 fn replay(folder: &Folder) -> Command {
     kept(program("replay", folder.path()))
 }
 
-/// The two ends of a connection, of which the second does not wait where nothing has come.
-fn paused() -> (UnixStream, OwnedFd) {
-    let (ours, theirs) = UnixStream::pair().expect("a connection");
-    theirs.set_nonblocking(true).expect("no waiting");
-    (ours, theirs.into())
-}
-
 #[test]
 fn a_full_device() {
     let folder = Folder::with_image(Some(&image_a()));
-    let full = File::options().write(true).open("/dev/full");
-    let child = replay(&folder).stdout(full.expect("/dev/full")).spawn();
-    let output = finish(child.expect("replay runs"));
-    no_report(&output, "the report cannot be written");
+    let told = ended(replay(&folder).stdout(full_device()));
+    only_says(&told, "replay: the report cannot be written");
 }
 
 #[test]
@@ -43,9 +29,7 @@ fn a_list_that_pauses() {
         let folder = Folder::with_image(Some(&image_a()));
         let (mut ours, theirs) = paused();
         ours.write_all(bytes).expect("the first lines");
-        let child = replay(&folder).stdin(theirs).spawn();
-        let output = finish(child.expect("replay runs"));
-        no_report(&output, "the list was not read to its end");
+        only_says(&ended(replay(&folder).stdin(theirs)), NOT_READ);
     }
 }
 
@@ -67,8 +51,7 @@ fn a_list_that_pauses_and_ends_in_time() {
 fn a_closed_standard_input() {
     let folder = Folder::with_image(Some(&image_a()));
     let mut command = by_shell("exec \"$@\" <&-", &replay(&folder));
-    let output = command.output().expect("sh runs");
-    no_report(&output, "the list was not read to its end");
+    only_says(&ended(&mut command), NOT_READ);
 }
 
 #[test]
@@ -76,15 +59,8 @@ fn a_refused_start_with_an_open_pipe() {
     let odd = vec![0; 5_000];
     for image in [None, Some(odd.as_slice())] {
         let folder = Folder::with_image(image);
-        let mut child = replay(&folder)
-            .stdin(Stdio::piped())
-            .spawn()
-            .expect("replay runs");
-        let held = child.stdin.take();
-        let output = finish(child);
-        let report = String::from_utf8_lossy(&output.stdout);
+        let (_, report, _) = with_open_pipe(&mut replay(&folder), b"");
         assert_eq!(report, "line,op,answer,value\n0,start,refused,d\n");
-        drop(held);
     }
 }
 

@@ -2,13 +2,13 @@
 //! the model.
 use model::generate::image_a;
 use model::permission::{places, sheet};
-use programs::{by_shell, ended, finish, kept, program, repository, told, Folder, Stage, Told};
-use std::fs::{self, File};
-use std::io::{ErrorKind, Write};
-use std::os::fd::OwnedFd;
-use std::os::unix::net::UnixStream;
+use programs::{
+    by_shell, closed_pipe, ended, finish, full_device, kept, only_says, prints, program,
+    repository, unwritable, with_open_pipe, Folder, Stage, Told,
+};
+use std::fs;
 use std::os::unix::process::ExitStatusExt;
-use std::process::{Command, Stdio};
+use std::process::Command;
 
 const NOT_WRITTEN: &str = "rights: the answers cannot be written";
 
@@ -19,7 +19,7 @@ fn rights(folder: &Folder) -> Command {
 
 /// The answers of the model, as the program tells them.
 fn answers() -> Told {
-    (0, sheet(), String::new())
+    prints(&sheet())
 }
 
 #[test]
@@ -45,43 +45,17 @@ fn standard_input_is_not_read() {
     let folder = Folder::with_image(None);
     let mut closed = by_shell("exec \"$@\" <&-", &rights(&folder));
     assert_eq!(ended(&mut closed), answers());
+    // It does not wait for more.
     for bytes in [&b""[..], b"0\n", &[0xFF; 4_096]] {
-        let mut child = rights(&folder)
-            .stdin(Stdio::piped())
-            .spawn()
-            .expect("rights runs");
-        let mut held = child.stdin.take().expect("its standard input");
-        // The program may have ended already.
-        if let Err(error) = held.write_all(bytes) {
-            assert_eq!(error.kind(), ErrorKind::BrokenPipe);
-        }
-        // The pipe is still open: it does not wait for more.
-        assert_eq!(told(&finish(child)), answers());
-        drop(held);
+        assert_eq!(with_open_pipe(&mut rights(&folder), bytes), answers());
     }
-}
-
-/// The program ended by itself, and said that the answers cannot be written.
-fn not_written(command: &mut Command) {
-    let (status, _, error) = ended(command);
-    assert_ne!(status, -1, "a signal ended it");
-    assert!(error.contains(NOT_WRITTEN), "standard error: {error}");
-}
-
-/// A connection whose other end is closed.
-fn closed_pipe() -> OwnedFd {
-    let (_, theirs) = UnixStream::pair().expect("a connection");
-    theirs.into()
 }
 
 #[test]
 fn answers_that_cannot_be_written() {
-    let folder = Folder::with_image(None);
-    let full = File::options().write(true).open("/dev/full");
-    not_written(rights(&folder).stdout(full.expect("/dev/full")));
-    not_written(&mut by_shell("exec \"$@\" >&-", &rights(&folder)));
-    let ignoring = "trap '' PIPE; exec \"$@\"";
-    not_written(by_shell(ignoring, &rights(&folder)).stdout(closed_pipe()));
+    for mut command in unwritable(&rights(&Folder::with_image(None))) {
+        only_says(&ended(&mut command), NOT_WRITTEN);
+    }
 }
 
 /// Where the signal of a closed pipe is not ignored it ends the program, and no other signal does.
@@ -185,10 +159,9 @@ fn answers_cut_short() {
 
 #[test]
 fn output_of_the_command_that_cannot_be_written() {
-    let full = || File::options().write(true).open("/dev/full");
     for argument in [None, Some("--page"), Some("--source")] {
         let mut command = kept(programs::command("rights"));
-        command.args(argument).stdout(full().expect("/dev/full"));
+        command.args(argument).stdout(full_device());
         let (status, _, error) = ended(&mut command);
         assert_eq!(status, 2, "{argument:?}: {error}");
     }
