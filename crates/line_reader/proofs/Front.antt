@@ -2,11 +2,11 @@
 use Prim.Native.Nat.{ℕ, _+_, _≤_}
 use mathlib.Core.Path.{_≡_, refl, ap, sym, _∙_}
 use mathlib.Core.Bool.{Bool, true, false, cond}
-use mathlib.Core.List.{List, []}
+use mathlib.Core.List.{List}
 use native.Mathlib.Omega.{arith}
 use lib.Dec.{ltb}
 use lib.ListN.{length, take, drop}
-use lib.Seq.{length-take-le, take-at, take-length}
+use lib.Seq.{length-take-le, take-at}
 use borrow.Author.Tests.{ltb-false, le-ltb}
 use Rattle.text.specs.Put.{over}
 use Rattle.lines.specs.Form.{pairText}
@@ -16,9 +16,8 @@ use Rattle.lines.proofs.Theorem.{fits-parts}
 use Rattle.line_reader.specs.declared.Verdict.{Verdict}
 use Rattle.line_reader.specs.declared.Verdict.the-variants.{Good, Form, Order}
 use Rattle.line_reader.specs.declared.Reader.{Reader}
-use Rattle.line_reader.specs.declared.Told.{Told}
 use Rattle.line_reader.specs.declared.Told.the-variants.{Output, ShortBuffer}
-use Rattle.line_reader.specs.Reading.{complete, lastTest, lineAfter, byVerdict, ending, EndCall, endCall, refusalCall, finished}
+use Rattle.line_reader.specs.Reading.{complete, lastTest, lineAfter, byVerdict, ending, EndCall, endCall, finished}
 
 -- the front of m is the whole output, and no longer than m, or there is room for the output
 pub data Stands : Converted → List ℕ → Type 0 where

@@ -1,15 +1,14 @@
 -- The words of lines, stored one after the other into an image of zeros, make their image. Assumes nothing.
-use Prim.Native.Nat.{ℕ, suc, _+_, _*_, _-_, _/_, _%_, _≤_}
-use mathlib.Core.Path.{_≡_, refl, ap, ap₂, sym, _∙_, subst}
+use Prim.Native.Nat.{ℕ, suc, _+_, _-_, _/_, _%_, _≤_}
+use mathlib.Core.Path.{_≡_, refl, ap, ap₂, sym, _∙_}
 use mathlib.Core.Bool.{Bool, true, false, cond}
 use mathlib.Core.List.{List, [], _∷_, _++_, append-assoc, append-nil}
 use native.Mathlib.Omega.{arith}
-use lib.Dec.{leb}
 use lib.ListN.{length, take, drop, set, replicate, length-append, length-replicate, length-set, replicate-append-replicate}
-use lib.Seq.{sets, sets-eq, take-at, drop-append-add}
+use lib.Seq.{sets-eq, take-at, drop-append-add}
 use borrow.Author.Tests.{le-leb}
 use Rattle.model.specs.declared.Size.the-variants.{Four}
-use Rattle.model.specs.step.Memory.{within, halfStored, storedAt, writtenAt}
+use Rattle.model.specs.step.Memory.{within, storedAt, writtenAt}
 use Rattle.lines.specs.Words.{Word, bytesOf, imageFrom, endFrom}
 use Rattle.lines.proofs.WordLaws.{Rises}
 

@@ -3,15 +3,15 @@ use Prim.Native.Nat.{ℕ, zero, suc, _+_, _*_, _%_, _^_, _≤_, _<_}
 use mathlib.Core.Path.{_≡_, refl, ap, ap₂, sym, _∙_, subst}
 use mathlib.Core.Bool.{Bool, true, false, cond, _&&_, true≢false}
 use mathlib.Core.List.{List, [], _∷_, _++_, append-assoc, append-nil}
-use mathlib.Core.Logic.{_⊎_, inl, inr, ⊎-elim}
+use mathlib.Core.Logic.{_⊎_, inl, inr}
 use native.Mathlib.Omega.{arith}
 use native.Mathlib.Decide.{decLt}
 use lib.Dec.{eqb, ltb}
-use lib.ListN.{length, getD, set, take, replicate, length-append, length-set, length-replicate}
-use lib.Seq.{take-suc, take-set-le, getD-set-same, length-take-le}
-use borrow.Author.Tests.{lt-ltb, le-ltb, eq-eqb, ne-eqb, eqb-true, eqb-false, ltb-true, ltb-false}
+use lib.ListN.{length, set, take, replicate, length-append, length-set, length-replicate}
+use lib.Seq.{take-suc, take-set-le, getD-set-same}
+use borrow.Author.Tests.{lt-ltb, eq-eqb, ne-eqb, eqb-true, eqb-false, ltb-true, ltb-false}
 use Rattle.text.specs.Split.{has, until, past, same}
-use Rattle.text.proofs.SplitLaws.{join, past-none, past-shorter, past-length, same-lengths, same-equal}
+use Rattle.text.proofs.SplitLaws.{join, past-shorter, same-lengths}
 use Rattle.names.specs.Names.{newline}
 use Rattle.model.specs.declared.Size.the-variants.{Four}
 use Rattle.model.specs.step.Memory.{writtenAt}
@@ -26,9 +26,8 @@ use Rattle.lines.proofs.ReadLaws.{order-kept, falls-refused, unaligned-refused,
 use Rattle.lines.proofs.Theorem.{fits-parts}
 use Rattle.line_reader.specs.declared.Verdict.{Verdict}
 use Rattle.line_reader.specs.declared.Verdict.the-variants.{Good, Form, Order}
-use Rattle.line_reader.specs.declared.Reader.{Reader}
 use Rattle.line_reader.specs.declared.Told.the-variants.{Output}
-use Rattle.line_reader.specs.Reading.{State, fresh, begun, lineLimit, lineAfter, turn, lateTurn, accept, changed, soFar, oneMore, namesEnded, said, wordEnded, lineEnded, withByte, byteTaken, isDecided, decides, step, feed, complete, lastTest, byVerdict, ending, finished, endOf, Streamed}
+use Rattle.line_reader.specs.Reading.{State, begun, lineLimit, lineAfter, turn, accept, changed, soFar, namesEnded, said, wordEnded, lineEnded, withByte, byteTaken, isDecided, decides, step, feed, complete, lastTest, byVerdict, ending, finished, endOf, Streamed}
 use Rattle.line_reader.proofs.Laws.{byte-added, byte-refused, taken-late, taken-newline, taken-other, step-decided, step-taken, names-good, names-wrong, line-names, line-said, word-falls, word-unaligned, word-good, last-open}
 use Rattle.line_reader.proofs.Stored.{stored, written-length, stored-image}
 use Rattle.line_reader.proofs.Front.{front}

@@ -4,6 +4,7 @@ use Prim.Native.Nat.{ℕ, _+_, _%_, _≤_}
 use mathlib.Core.Path.{_≡_}
 use mathlib.Core.Bool.{Bool, true, false, cond}
 use mathlib.Core.List.{List, [], _∷_, _++_}
+use mathlib.Core.Option.{Option, none, some}
 use lib.Dec.{eqb, ltb}
 use lib.ListN.{length, take, set, replicate}
 use Rattle.text.specs.Split.{same}
@@ -123,10 +124,18 @@ complete r = cond (eqb (r .count) 0) (ltb 0 (r .lines)) false
 unfoldable pub lastTest : Reader → List ℕ → Converted
 lastTest r m = cond (complete r) (cond (lengthFits (length m) (r .end)) (gives (take (r .end) m)) (refusal 0 19)) (refusal (lineAfter (r .lines)) 18)
 
+-- the number of the rules for a verdict: none where nothing is known against the lines
+abbrev pub verdictNumber : Verdict → Option ℕ
+verdictNumber Good = none
+verdictNumber Form = some 18
+verdictNumber Order = some 19
+
+abbrev pub byNumber : Option ℕ → Reader → List ℕ → Converted
+byNumber none r m = lastTest r m
+byNumber (some n) r m = refusal (r .lines) n
+
 abbrev pub byVerdict : Verdict → Reader → List ℕ → Converted
-byVerdict Good r m = lastTest r m
-byVerdict Form r m = refusal (r .lines) 18
-byVerdict Order r m = refusal (r .lines) 19
+byVerdict v r m = byNumber (verdictNumber v) r m
 
 -- what the end of the input gives
 abbrev pub ending : Reader → List ℕ → Converted

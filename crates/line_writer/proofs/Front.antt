@@ -15,7 +15,6 @@ use Rattle.lines.specs.Form.{lineNames, pairText}
 use Rattle.lines.specs.Words.{wordOf, hasLine, kept, wordsFrom}
 use Rattle.lines.specs.Ways.{gives, refusal, lengthFits, linesText, textOf, linesOf, output}
 use Rattle.lines.proofs.LineLaws.{pair-most}
-use Rattle.line_writer.specs.declared.Told.{Told}
 use Rattle.line_writer.specs.declared.Told.the-variants.{Text, ShortBuffer, WrongCounts}
 use Rattle.line_writer.specs.Call.{roomFor, LinesCall, inFront, left, called, Written}
 use Rattle.line_writer.proofs.Laws.{called-good}

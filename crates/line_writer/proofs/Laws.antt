@@ -11,7 +11,7 @@ use borrow.Author.Tests.{ne-eqb, lt-ltb, le-ltb, leb-true}
 use Rattle.text.specs.Put.{over, hasRoom, wrote, placeAfter}
 use Rattle.text.proofs.PutLaws.{over-over, over-none, length-over, wrote-fits}
 use Rattle.lines.specs.Form.{pairText}
-use Rattle.lines.specs.Words.{Word, isEmpty, wordOf, hasLine, kept, wordsFrom}
+use Rattle.lines.specs.Words.{isEmpty, wordOf, hasLine, kept, wordsFrom}
 use Rattle.lines.specs.Ways.{gives, refusal, lengthFits, linesText, textOf, linesOf, output}
 use Rattle.lines.proofs.LineLaws.{pair-most}
 use Rattle.lines.proofs.Theorem.{fits-parts}

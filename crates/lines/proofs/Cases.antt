@@ -1,5 +1,5 @@
 -- The two ways on inputs by hand, in the limit of the programs.
-use Prim.Native.Nat.{ℕ, suc, _+_}
+use Prim.Native.Nat.{ℕ, _+_}
 use mathlib.Core.Path.{_≡_, refl}
 use mathlib.Core.Bool.{Bool, true, false, cond}
 use mathlib.Core.List.{List, [], _∷_, _++_}
@@ -9,9 +9,9 @@ use Rattle.text.specs.Split.{has, until, past, same}
 use Rattle.text.specs.Hex.{digit, digits, number, lean, spelled, valueOf, glyph, spell, hexOf}
 use Rattle.text.specs.Quoted.{quotedFrom, quoted}
 use Rattle.model.specs.step.Checks.{memoryFits}
-use Rattle.lines.specs.Form.{lineNames, lineOf, pairText}
-use Rattle.lines.specs.Words.{hasLine, wordsFrom, bytesOf, imageFrom, endFrom}
-use Rattle.lines.specs.Ways.{Converted, gives, refusal, lengthFits, linesText, textOf, linesOf, falls, unaligned, zeroBefore, refuses19, readLines, hasNames, readAll, imageOf, output}
+use Rattle.lines.specs.Form.{lineOf, pairText}
+use Rattle.lines.specs.Words.{hasLine, wordsFrom, imageFrom, endFrom}
+use Rattle.lines.specs.Ways.{refusal, lengthFits, linesText, textOf, linesOf, falls, unaligned, zeroBefore, refuses19, readLines, hasNames, readAll, imageOf, output}
 
 -- the limit of the programs
 abbrev limit : ℕ

@@ -3,4 +3,5 @@ pub mod LineLaws
 pub mod WordLaws
 pub mod ReadLaws
 pub mod Theorem
+pub mod RefusalLaws
 pub mod Cases

@@ -1,7 +1,7 @@
 -- A line is the text of what it says. Assumes nothing.
 use Prim.Native.Nat.{ℕ, _+_, _^_, _≤_, _<_}
 use mathlib.Core.Path.{_≡_, refl, ap, ap₂, sym, _∙_}
-use mathlib.Core.Bool.{Bool, true, false, true≢false}
+use mathlib.Core.Bool.{Bool, true, false}
 use mathlib.Core.List.{List, [], _∷_, _++_, append-assoc}
 use native.Mathlib.Omega.{arith}
 use lib.ListN.{length, length-append}
@@ -13,8 +13,7 @@ use Rattle.text.proofs.SplitLaws.{join, join-parts, has-append, past-none}
 use Rattle.text.proofs.HexLaws.{value-text, text-value, value-bound, hex-lacks, hex-some, hex-length}
 use Rattle.names.specs.Names.{comma, newline}
 use Rattle.names.proofs.NameLaws.{comma-no-digit, newline-no-digit}
-use Rattle.lines.specs.declared.Line.{Line}
-use Rattle.lines.specs.declared.Line.the-variants.{At, Misshapen}
+use Rattle.lines.specs.declared.Line.the-variants.{At}
 use Rattle.lines.specs.Form.{pairOf, lineOf, pairText}
 
 pair-parts : (x y : Value) (a w : ℕ) → pairOf x y ≡ At a w → (x ≡ Number a) × (y ≡ Number w)

@@ -1,4 +1,5 @@
--- An image as lines: a line, words and images, and the two ways between them.
+-- An image as lines: a line, words and images, the two ways between them, and what turns lines back.
 pub mod Form
 pub mod Words
 pub mod Ways
+pub mod Refusals

@@ -36,10 +36,10 @@ use Rattle.listing.proofs.CanonicalLaws.{named-name}
 -- ── Parts ──
 
 -- what stands before the first b and the parts of what stands after it, or the whole text
-abbrev split : Bool → ℕ → List ℕ → List (List ℕ)
+abbrev pub split : Bool → ℕ → List ℕ → List (List ℕ)
 split found b l = cond found (until b l ∷ parts b (past b l)) (l ∷ [])
 
-parts-split : (b : ℕ) (l : List ℕ) → parts b l ≡ split (has b l) b l
+pub parts-split : (b : ℕ) (l : List ℕ) → parts b l ≡ split (has b l) b l
 unfolding parts inFront has until past
 parts-split b [] = refl
 parts-split b (x ∷ xs) = go (parts-split b xs) (eqb x b)
@@ -54,7 +54,7 @@ parts-split b (x ∷ xs) = go (parts-split b xs) (eqb x b)
     go ih false = ap (inFront x) ih ∙ more (has b xs)
 
 -- there is always a part
-some-part : (b : ℕ) (l : List ℕ) → (p : List ℕ) × (ps : List (List ℕ)) × (parts b l ≡ p ∷ ps)
+pub some-part : (b : ℕ) (l : List ℕ) → (p : List ℕ) × (ps : List (List ℕ)) × (parts b l ≡ p ∷ ps)
 some-part b l = go (has b l) (parts-split b l)
   where
     go : (t : Bool) → parts b l ≡ split t b l → (p : List ℕ) × (ps : List (List ℕ)) × (parts b l ≡ p ∷ ps)
@@ -64,10 +64,10 @@ some-part b l = go (has b l) (parts-split b l)
 -- ── Lines ──
 
 -- the first line: what stands before the first newline, or the whole text
-abbrev written : Bool → List ℕ → Written
+abbrev pub written : Bool → List ℕ → Written
 written found l = cond found (record { text = until newline l; ended = true }) (record { text = l; ended = false })
 
-lines-end : linesIn [] ≡ []
+pub lines-end : linesIn [] ≡ []
 unfolding linesOf parts
 lines-end = refl
 
@@ -77,19 +77,19 @@ lines-more t l =
     let p = some-part newline l in
     ap (λ (ps : List (List ℕ)). linesOf (t ∷ ps)) (p .2) ∙ sym (ap (λ (ps : List (List ℕ)). record { text = t; ended = true } ∷ linesOf ps) (p .2))
 
-lines-split : (x : ℕ) (xs : List ℕ) → linesIn (x ∷ xs) ≡ written (has newline (x ∷ xs)) (x ∷ xs) ∷ linesIn (past newline (x ∷ xs))
+pub lines-split : (x : ℕ) (xs : List ℕ) → linesIn (x ∷ xs) ≡ written (has newline (x ∷ xs)) (x ∷ xs) ∷ linesIn (past newline (x ∷ xs))
 lines-split x xs = ap linesOf (parts-split newline (x ∷ xs)) ∙ go (has newline (x ∷ xs)) refl
   where
     go : (t : Bool) → has newline (x ∷ xs) ≡ t → linesOf (split t newline (x ∷ xs)) ≡ written t (x ∷ xs) ∷ linesIn (past newline (x ∷ xs))
     go true e = lines-more (until newline (x ∷ xs)) (past newline (x ∷ xs))
     go false e = rw (past-none newline (x ∷ xs) e, lines-end) (unfold linesOf in rw (ne-eqb (suc (length xs)) 0 (λ h. omega arith)))
 
-first-line : (l : List ℕ) → firstLine l ≡ written (has newline l) l
+pub first-line : (l : List ℕ) → firstLine l ≡ written (has newline l) l
 unfolding firstLine
 first-line [] = rw lines-end (unfold has in refl)
 first-line (x ∷ xs) = rw (lines-split x xs)
 
-rest-lines : (l : List ℕ) → drop 1 (linesIn l) ≡ linesIn (past newline l)
+pub rest-lines : (l : List ℕ) → drop 1 (linesIn l) ≡ linesIn (past newline l)
 rest-lines [] = rw lines-end (unfold past in sym lines-end)
 rest-lines (x ∷ xs) = rw (lines-split x xs)
 
@@ -193,7 +193,7 @@ value-same (x ∷ y ∷ ys) =
     go true false false = refl
     go false u v = refl
 
-value-read : (s : List ℕ) → valueOf s ≡ cond (isValue s) (Number (number 0 s)) Misspelled
+pub value-read : (s : List ℕ) → valueOf s ≡ cond (isValue s) (Number (number 0 s)) Misspelled
 unfolding valueOf
 value-read s = rw (value-same s)
 
@@ -347,11 +347,11 @@ line-number l = go (has newline l)
 -- ── A whole list ──
 
 -- the number given for a line, or what is given after it
-unfoldable firstOf : ℕ → Option ℕ → Option (ℕ × ℕ) → Option (ℕ × ℕ)
+unfoldable pub firstOf : ℕ → Option ℕ → Option (ℕ × ℕ) → Option (ℕ × ℕ)
 firstOf n none y = y
 firstOf n (some r) y = some (n, r)
 
-unfoldable firstAt : List (ℕ × List (ℕ × Bool)) → Option (ℕ × ℕ)
+unfoldable pub firstAt : List (ℕ × List (ℕ × Bool)) → Option (ℕ × ℕ)
 firstAt [] = none
 firstAt (x ∷ xs) = firstOf (x .0) (firstHolding (x .1)) (firstAt xs)
 
@@ -394,13 +394,13 @@ list-number l = rw (long-same l, names-same l, rest-lines l) (go (tooLong l) (ha
 
 -- ── The theorem ──
 
-given-at : (n r : ℕ) (xs : List (ℕ × List (ℕ × Bool))) → GivenAt n r xs → firstAt xs ≡ some (n, r)
+pub given-at : (n r : ℕ) (xs : List (ℕ × List (ℕ × Bool))) → GivenAt n r xs → firstAt xs ≡ some (n, r)
 unfolding GivenAt firstAt firstOf
 given-at n r [] g = absurd g
 given-at n r (x ∷ xs) (inl g) = rw (given-first (x .1) r (g .1)) (ap (λ (m : ℕ). some (m, r)) (g .0))
 given-at n r (x ∷ xs) (inr g) = rw (none-holds (x .1) (g .0)) (given-at n r xs (g .1))
 
-at-given : (n r : ℕ) (xs : List (ℕ × List (ℕ × Bool))) → firstAt xs ≡ some (n, r) → GivenAt n r xs
+pub at-given : (n r : ℕ) (xs : List (ℕ × List (ℕ × Bool))) → firstAt xs ≡ some (n, r) → GivenAt n r xs
 unfolding GivenAt firstAt
 at-given n r [] p = absurd (none-some (n, r) p)
 at-given n r (x ∷ xs) p = go (firstHolding (x .1)) refl p (at-given n r xs)

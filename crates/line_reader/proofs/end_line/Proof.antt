@@ -1,6 +1,6 @@
 use mathlib.Core.Path.{ap, sym, _∙_}
 use denote.Ref.{now}
-use Rattle.lines.specs.declared.Line.the-variants.{At, Misshapen}
+use Rattle.lines.specs.declared.Line.the-variants.{Misshapen}
 use Rattle.lines.specs.Form.{lineOf}
 use Rattle.line_reader.specs.declared.Reader.{Reader}
 use Rattle.line_reader.specs.Reading.{State}

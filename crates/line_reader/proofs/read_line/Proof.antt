@@ -1,5 +1,4 @@
-use mathlib.Core.Path.{ap, ap₂, sym, _∙_}
-use denote.Ref.{now}
+use mathlib.Core.Path.{ap, ap₂, _∙_}
 use Rattle.text.specs.Hex.{valueOf}
 use Rattle.lines.specs.Form.{pairOf, lineOf}
 use borrow.Author.Needs.{needs}

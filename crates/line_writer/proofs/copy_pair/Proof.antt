@@ -1,6 +1,6 @@
 -- After each call, what has been written so far is one text (`Written`).
-use Prim.Native.Nat.{ℕ, _+_, _≤_}
-use mathlib.Core.Path.{_≡_, ap, sym, _∙_}
+use Prim.Native.Nat.{ℕ, _+_}
+use mathlib.Core.Path.{_≡_, ap, _∙_}
 use mathlib.Core.List.{List, [], _∷_, _++_, append-assoc}
 use native.Mathlib.Omega.{arith}
 use lib.ListN.{length}
@@ -8,7 +8,7 @@ use denote.Ref.{now}
 use Rattle.text.specs.Hex.{hexOf}
 use Rattle.text.specs.Put.{over}
 use Rattle.text.proofs.HexLaws.{hex-length}
-use Rattle.text.proofs.PutLaws.{Written, written-more, put-first, put-more}
+use Rattle.text.proofs.PutLaws.{Written, put-first, put-more}
 use Rattle.names.specs.Names.{comma, newline}
 use Rattle.lines.specs.Form.{pairText}
 use borrow.Author.Needs.{needs}

@@ -1,4 +1,4 @@
-use mathlib.Core.Path.{_≡_, _∙_, sym, ap}
+use mathlib.Core.Path.{_∙_, sym, ap}
 use mathlib.Core.Bool.{Bool, true, cond}
 use denote.Ref.{now}
 use borrow.Author.Tests.{eq-eqb, ne-eqb}

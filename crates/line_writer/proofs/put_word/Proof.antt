@@ -1,4 +1,4 @@
-use mathlib.Core.Path.{_≡_, refl, sym, _∙_}
+use mathlib.Core.Path.{refl, sym, _∙_}
 use Rattle.line_writer.specs.Call.{placeAfterWord, wroteWord}
 use borrow.Author.Needs.{needs}
 use Rattle.line_writer.proofs.put_word.Statement.{statement}

@@ -1,7 +1,5 @@
-use Prim.Native.Nat.{_/_, _≤_}
 use mathlib.Core.Path.{sym, _∙_}
 use native.Mathlib.Omega.{arith}
-use Rattle.lines.specs.Ways.{lengthFits}
 use Rattle.lines.proofs.Theorem.{fits-parts}
 use Rattle.line_writer.specs.Call.{roomFor}
 use borrow.Author.Needs.{needs}
