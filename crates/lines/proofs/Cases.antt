@@ -118,7 +118,18 @@ misfitCases =
     ∷ (output (linesOf limit (replicate 36864 1)), quoted "0,13\n")
     ∷ []
 
+-- the lengths of a memory, and those beside them, under a limit that is higher than all; and a limit
+abbrev lengthTests : List Bool
+lengthTests =
+    lengthFits 0x100000000 4096 ∷ lengthFits 0x100000000 8192 ∷ lengthFits 0x100000000 16777216 ∷ lengthFits 32768 32768
+    ∷ lengthFits 0x100000000 0 ∷ lengthFits 0x100000000 4095 ∷ lengthFits 0x100000000 4100 ∷ lengthFits 0x100000000 16781312 ∷ lengthFits 0x100000000 0x100000000 ∷ lengthFits 32768 36864 ∷ lengthFits 32767 32768
+    ∷ []
+
 -- ── The theorems ──
+pub lengths : lengthTests ≡ true ∷ true ∷ true ∷ true ∷ false ∷ false ∷ false ∷ false ∷ false ∷ false ∷ false ∷ []
+unfolding lengthFits memoryFits
+lengths = refl
+
 pub the-names : allSame nameCases ≡ true
 unfolding has until past same digit digits number lean spelled valueOf glyph spell hexOf quotedFrom quoted memoryFits lineOf pairText hasLine wordsFrom imageFrom endFrom lengthFits linesText textOf linesOf falls unaligned zeroBefore refuses19 readLines hasNames readAll imageOf
 the-names = refl

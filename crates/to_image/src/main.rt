@@ -95,7 +95,7 @@ fn read_lines(line: &mut [u8], image: &mut [u8]) -> Reading {
 fn print_image(reader: Reader, image: &mut [u8]) {
     if let Told::Output(size) = line_reader::finish(reader, image) {
         if !io::write_all(STDOUT_FILENO, &image[..size]) {
-            os::fail(b"to_image: the image cannot be written");
+            os::fail(b"to_image: the output cannot be written");
         }
     }
 }
