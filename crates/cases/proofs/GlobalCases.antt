@@ -188,23 +188,79 @@ turning start =
     ∷ isTrusted 1 thirdOwned
     ∷ []
 
--- `asid`, then `root`, to a map that differs.
+-- `asid`, then `root`, to a map that differs: refused unless that context is 0.
 switching : After → List (ℕ × ℕ)
 unfolding next
 switching start =
-    let moved = next Root 0x100 0 0 (asid 1 start) in
+    let other = asid 1 start in
+    let refused = next Root 0x100 0 0 other in
+    let kept = next Root 0x80 0 0 other in
+    let moved = next Root 0x100 0 0 (asid 0 start) in
+    -- under context 1 nothing is set and nothing noted, also where the new root is the old one
+    (answered refused, refusalCode 20)
+    ∷ (answered kept, refusalCode 20)
+    ∷ (refused .registers .root, 0x80)
+    ∷ (refused .registers .context, 1)
+    ∷ inRows 0 refused (0x202, 0x202, 0)
+    ++ inRows 1 refused (0, 0, 0x682)
+    ++ inRows 2 refused (0x602, 0x602, 0)
+    ++ inRows 4 refused (0x602, 0x602, 0)
+    ++ inRows 5 refused (0, 0, 0x682)
+    ++ isTrusted 0 refused ∷ isTrusted 1 refused ∷ isTrusted 2 refused ∷ isTrusted 4 refused ∷ isTrusted 5 refused
+    -- under context 0 its own row is the one in which pages are left at 1
+    ∷ (answered moved, 0)
+    ∷ (moved .registers .root, 0x100)
+    ∷ (moved .registers .context, 0)
+    ∷ inRows 0 moved (0x202, 0, 0)
+    ++ inRows 1 moved (0, 0, 1)
+    ++ inRows 2 moved (1, 0, 0)
+    ++ inRows 4 moved (0x602, 0, 0x5682)
+    ++ inRows 5 moved (0x5602, 0, 0x682)
+    ++ isTrusted 0 moved ∷ isStale 1 moved ∷ isStale 2 moved ∷ isStale 4 moved ∷ isStale 5 moved
+    ∷ []
+
+-- From context 1 through context 0, where the root is set, to context 1 again: both contexts have used both maps.
+throughContext0 : After → List (ℕ × ℕ)
+unfolding next
+throughContext0 start =
+    let moved = asid 1 (next Root 0x100 0 0 (asid 0 (asid 1 start))) in
     let flushed = next Ctx 1 0 0 moved in
     -- page 0 is the same in both maps; with nG set in both, page 2 is at 1 under the new context; with nG clear in both, page 1 is at 1 in
     -- the global row; from one to the other, pages 4 and 5 have no word at 1
     inRows 0 moved (0x202, 0x202, 0)
     ++ inRows 1 moved (0, 0, 1)
-    ++ inRows 2 moved (0x602, 1, 0)
+    ++ inRows 2 moved (1, 1, 0)
     ++ inRows 4 moved (0x602, 0x602, 0x5682)
-    ++ inRows 5 moved (0, 0x5602, 0x682)
+    ++ inRows 5 moved (0x5602, 0x5602, 0x682)
     -- all but page 0 are stale
     ++ isTrusted 0 moved ∷ isStale 1 moved ∷ isStale 2 moved ∷ isStale 4 moved ∷ isStale 5 moved
     -- `ctx` of the new context frees those that are so by its row alone: their frame is not in memory
     ∷ isStale 1 flushed ∷ faultsWith 0x8 2 flushed ∷ faultsWith 0x8 4 flushed ∷ isStale 5 flushed
+    ∷ []
+
+-- `root` under context 0, then `asid`, then back: context 1 has used the new map alone, until the old one is set again.
+thereAndBack : After → List (ℕ × ℕ)
+unfolding next
+thereAndBack start =
+    let there = asid 1 (next Root 0x100 0 0 start) in
+    let back = next Root 0x80 0 0 (asid 0 there) in
+    let again = asid 1 back in
+    inRows 0 there (0x202, 0x202, 0)
+    ++ inRows 1 there (0, 0, 1)
+    ++ inRows 2 there (1, 0x5602, 0)
+    ++ inRows 4 there (0x602, 0, 0x5682)
+    ++ inRows 5 there (0x5602, 0x5602, 0x682)
+    -- in context 1 page 2 is not stale, and page 4 neither: their frame is not in memory
+    ++ isTrusted 0 there ∷ isStale 1 there ∷ faultsWith 0x8 2 there ∷ faultsWith 0x8 4 there ∷ isStale 5 there
+    -- with the old root, under context 0
+    ∷ (answered back, 0)
+    ∷ (back .registers .root, 0x80)
+    ∷ inRows 2 back (1, 0x5602, 0)
+    ++ isTrusted 0 back ∷ isStale 1 back ∷ isStale 2 back ∷ isStale 4 back ∷ isStale 5 back
+    -- and under context 1, which has used both maps now
+    ∷ inRows 2 again (1, 1, 0)
+    ++ inRows 4 again (0x602, 0x602, 0x5682)
+    ++ isTrusted 0 again ∷ isStale 1 again ∷ isStale 2 again ∷ isStale 4 again ∷ isStale 5 again
     ∷ []
 
 -- Words of one entry whose bit 7 does not suit their row.
@@ -246,9 +302,9 @@ unsuited image =
     ∷ []
 
 unfoldable pub globalEntries : List (ℕ × ℕ)
-unfolding next noting remapping turning switching unsuited
+unfolding next noting remapping turning switching throughContext0 thereAndBack unsuited
 globalEntries =
     let image = sharedImage in
     let two = started image (replicate 3072 7) 0x80 in
     let three = started image (replicate 4096 7) 0x80 in
-    noting image two three ++ remapping two ++ turning three ++ switching two ++ unsuited image
+    noting image two three ++ remapping two ++ turning three ++ switching two ++ throughContext0 two ++ thereAndBack two ++ unsuited image

@@ -1,5 +1,5 @@
--- The cases of the rules, computed by the definitions: those that the rules mark P, cases beyond them, four taken through the third
--- demand, and wrong checkers that it rules out; and what a TLB remembers of domains.
+-- The cases of the rules, computed by the definitions: those that the rules mark P, cases beyond them, five taken through the third
+-- demand, and wrong checkers that it rules out; what a TLB remembers of domains, and where the root changes.
 pub mod Across
 pub mod DomainCases
 pub mod DomainWitness
@@ -11,6 +11,8 @@ pub mod GlobalWitness
 pub mod Noted
 pub mod OldEntry
 pub mod PaperCases
+pub mod RootChanges
+pub mod RootWitness
 pub mod SplitCases
 pub mod WiderCases
 pub mod Witness

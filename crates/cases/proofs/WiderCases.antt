@@ -425,6 +425,8 @@ refusals small =
     ++ refusing 15 All 0 0 0 user
     ++ refusing 8 Fetch 0x400000 0 0 user
     ++ refusing 17 Domain 2 0 0 kernel
+    ++ refusing 20 Root 0x100 0 0 kernel
+    ++ refusing 20 Root 0x80 0 0 kernel
     ++ refusing 14 Mode 0 0 0 (givenWith 2 0x80 1 0 small emptyTrack)
     ++ refusing 16 Fetch 0x10 0 0 (given 0x80 1 0 small (set emptyTrack 1024 0x1602))
     ++ refusing 16 Read 0x10 4 0 (given 0x80 1 0 small (set emptyTrack 1024 0x1602))
@@ -451,6 +453,10 @@ inKernel k a b c = checked 4096 3072 0x80 1 0 k a b c
 
 abbrev inUser : Kind → ℕ → ℕ → ℕ → ℕ
 inUser k a b c = checked 4096 3072 0x80 1 1 k a b c
+
+-- in kernel mode and context 0
+abbrev inContext0 : Kind → ℕ → ℕ → ℕ → ℕ
+inContext0 k a b c = checked 4096 3072 0x80 0 0 k a b c
 
 -- with another domain register, in kernel mode
 abbrev holding : ℕ → Kind → ℕ → ℕ → ℕ → ℕ
@@ -535,8 +541,10 @@ conditions =
     ∷ (inKernel Write 0 4 0xFFFFFFFF, 0)
     -- 10: root
     ∷ (inKernel Root 0x40 0 0, 10)
-    ∷ (inKernel Root 0x80 0 0, 0)
+    ∷ (inContext0 Root 0x40 0 0, 10)
+    ∷ (inContext0 Root 0x80 0 0, 0)
     ∷ (inKernel Root 0x81 0 0, 10)
+    ∷ (inContext0 Root 0x81 0 0, 10)
     -- 11: context
     ∷ (inKernel Asid 1 0 0, 0)
     ∷ (inKernel Asid 2 0 0, 11)
@@ -593,7 +601,7 @@ conditions =
     -- 17 concerns no other operation
     ∷ (inKernel Read 2 4 0, 0)
     ∷ (inKernel Write 2 2 2, 0)
-    ∷ (inKernel Root 0x100 2 2, 0)
+    ∷ (inContext0 Root 0x100 2 2, 0)
     ∷ (inKernel Asid 0 2 2, 0)
     ∷ (inKernel Mode 0 2 2, 0)
     ∷ (inKernel All 2 2 2, 0)
@@ -601,6 +609,24 @@ conditions =
     ∷ (inKernel Ctx 0 2 2, 0)
     ∷ (inKernel AddrCtx 2 0 2, 0)
     ∷ (inKernel Fetch 2 2 2, 0)
+    -- 20: another root, the same root, root 0 and one outside memory under context 1, and under the last of 256 contexts
+    ∷ (inKernel Root 0x100 0 0, 20)
+    ∷ (inKernel Root 0x80 0 0, 20)
+    ∷ (inKernel Root 0 0 0, 20)
+    ∷ (inKernel Root 0xFFFFFF80 0 0, 20)
+    ∷ (inKernel Root 0x100 2 2, 20)
+    ∷ (checked 4096 4096 0x80 2 0 Root 0x100 0 0, 20)
+    ∷ (checked 4096 263168 0x80 255 0 Root 0x100 0 0, 20)
+    ∷ (checked 4096 263168 0x80 255 0 Root 0x80 0 0, 20)
+    -- and not under context 0
+    ∷ (inContext0 Root 0x100 0 0, 0)
+    ∷ (inContext0 Root 0 0 0, 0)
+    ∷ (inContext0 Root 0xFFFFFF80 0 0, 0)
+    ∷ (checked 4096 263168 0x80 0 0 Root 0x100 0 0, 0)
+    ∷ (checked 4096 2048 0x80 0 0 Root 0x100 0 0, 0)
+    -- it concerns no other operation: above, those under context 1 that are not refused
+    ∷ (checked 4096 263168 0x80 255 0 Asid 0 0 0, 0)
+    ∷ (checked 4096 263168 0x80 255 0 Asid 255 0 0, 0)
     ∷ []
 
 -- The order of the refusals.
@@ -632,6 +658,17 @@ order =
     ∷ (inUser Domain 2 0 0, 17)
     ∷ (inUser Domain 0x80000000 0 0, 17)
     ∷ (inUser Domain 0x55555555 0 0, 15)
+    -- 13 and 14 before 20, 10 before 15, 15 before 20
+    ∷ (checked 4095 3072 0x80 1 0 Root 0x100 0 0, 13)
+    ∷ (checked 4096 3072 0x80 2 0 Root 0x100 0 0, 14)
+    ∷ (checked 4096 3072 0x40 1 0 Root 0x100 0 0, 14)
+    ∷ (checked 4096 3072 0x80 1 2 Root 0x100 0 0, 14)
+    ∷ (holding 2 Root 0x100 0 0, 14)
+    ∷ (inKernel Root 0x140 0 0, 10)
+    ∷ (inUser Root 0x140 0 0, 10)
+    ∷ (inUser Root 0x100 0 0, 15)
+    ∷ (checked 4096 3072 0x80 0 1 Root 0x100 0 0, 15)
+    ∷ (inKernel Root 0x100 0 0, 20)
     -- start: 13, 10, and 13 before 10
     ∷ (refusal (firstFailing (startChecks 4096 2048 0x80)), 0)
     ∷ (refusal (firstFailing (startChecks 4095 2048 0x80)), 13)
@@ -825,7 +862,9 @@ unfolding next
 registers small =
     let start = started small emptyTrack 0x80 in
     let other = next Asid 1 0 0 start in
-    let moved = next Root 0x100 0 0 other in
+    let refused = next Root 0x100 0 0 other in
+    let rooted = next Root 0x100 0 0 (next Asid 0 0 0 other) in
+    let moved = next Asid 1 0 0 rooted in
     let user = next Mode 1 0 0 moved in
     let kernel = next Mode 0 0 0 user in
     let opened = next Domain 0x7 0 0 kernel in
@@ -834,8 +873,12 @@ registers small =
     let empty = given 0x80 1 0 small emptyTrack in
     -- `asid` notes the row of the new context
     tracked other (0x602, 0x202, 0) (0x602, 0x202, 0) (0, 0, 0)
-    -- `root` notes with the new root: page 0 gains a different entry, page 1 the same, page 2 its first
-    ++ tracked moved (0x602, 0x202, 0) (1, 0x202, 0x6602) (0, 0, 0)
+    -- `root`, refused under context 1, notes nothing; under context 0 it notes with the new root: page 0 gains a different entry, page 1 the
+    -- same, page 2 its first
+    ++ tracked refused (0x602, 0x202, 0) (0x602, 0x202, 0) (0, 0, 0)
+    ++ tracked rooted (1, 0x202, 0x6602) (0x602, 0x202, 0) (0, 0, 0)
+    -- and so does `asid` in context 1
+    ++ tracked moved (1, 0x202, 0x6602) (1, 0x202, 0x6602) (0, 0, 0)
     -- noting follows `mode`, `domain`, a read, a write, a fetch and a fault
     ++ tracked (next Mode 1 0 0 empty) (0, 0, 0) (0x602, 0x202, 0) (0, 0, 0)
     ++ tracked (next Domain 0 0 0 empty) (0, 0, 0) (0x602, 0x202, 0) (0, 0, 0)
@@ -849,18 +892,24 @@ registers small =
     ++ tracked (next Domain 2 0 0 empty) (0, 0, 0) (0, 0, 0) (0, 0, 0)
     -- each answers 0 and sets its own register; `mode` does in both modes
     ++ (answered other, 0)
+    ∷ (answered rooted, 0)
     ∷ (answered moved, 0)
     ∷ (answered user, 0)
     ∷ (answered kernel, 0)
     ∷ (answered opened, 0)
     ∷ (returned other, packed 0x80 1 0 0x55555555)
+    ∷ (returned rooted, packed 0x100 0 0 0x55555555)
     ∷ (returned moved, packed 0x100 1 0 0x55555555)
     ∷ (returned user, packed 0x100 1 1 0x55555555)
     ∷ (returned kernel, packed 0x100 1 0 0x55555555)
     ∷ (returned opened, packed 0x100 1 0 7)
     ∷ (returned (next Domain 0xFFFFFFFF 1 2 opened), packed 0x100 1 0 0xFFFFFFFF)
-    -- the others leave the domain register, and a refused `domain` every register
-    ∷ (returned (next Root 0x80 0 0 opened), packed 0x80 1 0 7)
+    -- the others leave the domain register, and a refused `domain`, or `root`, every register
+    ∷ (returned (next Root 0x80 0 0 (next Asid 0 0 0 opened)), packed 0x80 0 0 7)
+    ∷ (answered (next Root 0x80 0 0 opened), refusalCode 20)
+    ∷ (returned (next Root 0x80 0 0 opened), packed 0x100 1 0 7)
+    ∷ (answered refused, refusalCode 20)
+    ∷ (returned refused, packed 0x80 1 0 0x55555555)
     ∷ (returned (next Asid 0 0 0 opened), packed 0x100 0 0 7)
     ∷ (returned (next Mode 1 0 0 opened), packed 0x100 1 1 7)
     ∷ (answered kept, refusalCode 17)

@@ -12,7 +12,7 @@ use Rattle.model.proofs.Kind.{the-type}
 use Rattle.model.specs.declared.Kind.{Kind}
 use Rattle.model.specs.declared.Kind.the-variants.{Read, Write, Root, Asid, Mode, All, Addr, Ctx, AddrCtx, Fetch, Domain}
 use Rattle.model.specs.declared.Refusal.{Refusal}
-use Rattle.model.specs.declared.Refusal.the-variants.{WrongRoot, WrongContext, WrongMode, WrongDomains, UserMode}
+use Rattle.model.specs.declared.Refusal.the-variants.{WrongRoot, WrongContext, WrongMode, WrongDomains, UserMode, NotContext0}
 use Rattle.model.specs.declared.Check.{Check}
 use Rattle.model.specs.declared.Check.the-variants.{Pass, Refuse}
 use Rattle.model.specs.step.Checks.{firstFailing, Says}
@@ -32,12 +32,12 @@ unfolding firstFailing
 none-left = record { check = refl; number = refl }
 
 -- what is said of the checks from that of a new root on, by the answers of their functions, is said of the checks
-pub as-tested : {a a′ b b′ c c′ d d′ e e′ : Bool} {x : Check} → a ≡ a′ → b ≡ b′ → c ≡ c′ → d ≡ d′ → e ≡ e′ →
-    Says (firstFailing ((a, WrongRoot) ∷ (b, WrongContext) ∷ (c, WrongMode) ∷ (d, WrongDomains) ∷ (e, UserMode) ∷ [])) x →
-    Says (firstFailing ((a′, WrongRoot) ∷ (b′, WrongContext) ∷ (c′, WrongMode) ∷ (d′, WrongDomains) ∷ (e′, UserMode) ∷ [])) x
-as-tested {x = x} p q r s t h =
+pub as-tested : {a a′ b b′ c c′ d d′ e e′ f f′ : Bool} {x : Check} → a ≡ a′ → b ≡ b′ → c ≡ c′ → d ≡ d′ → e ≡ e′ → f ≡ f′ →
+    Says (firstFailing ((a, WrongRoot) ∷ (b, WrongContext) ∷ (c, WrongMode) ∷ (d, WrongDomains) ∷ (e, UserMode) ∷ (f, NotContext0) ∷ [])) x →
+    Says (firstFailing ((a′, WrongRoot) ∷ (b′, WrongContext) ∷ (c′, WrongMode) ∷ (d′, WrongDomains) ∷ (e′, UserMode) ∷ (f′, NotContext0) ∷ [])) x
+as-tested {x = x} p q r s t u h =
     subst (λ (l : List (Bool × Refusal)). Says (firstFailing l) x)
-    (λ i. (p i, WrongRoot) ∷ (q i, WrongContext) ∷ (r i, WrongMode) ∷ (s i, WrongDomains) ∷ (t i, UserMode) ∷ []) h
+    (λ i. (p i, WrongRoot) ∷ (q i, WrongContext) ∷ (r i, WrongMode) ∷ (s i, WrongDomains) ∷ (t i, UserMode) ∷ (u i, NotContext0) ∷ []) h
 
 -- The arm for the other kinds: ks are their places among the variants, and P is shown of each of them.
 abbrev pub When : Bool → Type 0 → Type 0

@@ -3,8 +3,8 @@ ghost use mathlib.Core.Path.{_≡_};
 ghost use mathlib.Core.List.{[], _∷_};
 ghost use Prim.Native.Nat.{_<_};
 ghost use Rattle.model.specs.Numbers.{refusalNumber};
-ghost use Rattle.model.specs.declared.Refusal.the-variants.{WrongRoot, WrongContext, WrongMode, WrongDomains, UserMode};
-ghost use Rattle.model.specs.step.Checks.{sizeFits, addressFits, valueFits, newRootFits, contextFits, modeFits, newDomainsFit, mayAsk, checks, startChecks, firstFailing, Says};
+ghost use Rattle.model.specs.declared.Refusal.the-variants.{WrongRoot, WrongContext, WrongMode, WrongDomains, UserMode, NotContext0};
+ghost use Rattle.model.specs.step.Checks.{sizeFits, addressFits, valueFits, newRootFits, contextFits, modeFits, newDomainsFit, mayAsk, rootMayChange, checks, startChecks, firstFailing, Says};
 use limits::domains_fit;
 use limits::fits_size;
 use limits::is_size;
@@ -108,9 +108,26 @@ pub fn may_ask(kind: Kind, mode: u32) -> bool
     }
 }
 
+// Whether an operation, if it sets the root, may do so in this context.
+pub fn root_may_change(kind: Kind, context: u32) -> bool
+    ensures { λ r. ⌜ r ≡ rootMayChange kind context ⌝ }
+{
+    match kind {
+        Kind::Root => context == 0,
+        _ => true,
+    }
+}
+
 // The first that fails of the checks from that of a new root on.
-fn check_new_values(root: bool, context: bool, mode: bool, domains: bool, asked: bool) -> Check
-    ensures { λ x. ⌜ Says (firstFailing ((root, WrongRoot) ∷ (context, WrongContext) ∷ (mode, WrongMode) ∷ (domains, WrongDomains) ∷ (asked, UserMode) ∷ [])) x ⌝ }
+fn check_new_values(
+    root: bool,
+    context: bool,
+    mode: bool,
+    domains: bool,
+    asked: bool,
+    changes: bool,
+) -> Check
+    ensures { λ x. ⌜ Says (firstFailing ((root, WrongRoot) ∷ (context, WrongContext) ∷ (mode, WrongMode) ∷ (domains, WrongDomains) ∷ (asked, UserMode) ∷ (changes, NotContext0) ∷ [])) x ⌝ }
 {
     if !root {
         return Check::Refuse(Refusal::WrongRoot);
@@ -126,6 +143,9 @@ fn check_new_values(root: bool, context: bool, mode: bool, domains: bool, asked:
     }
     if !asked {
         return Check::Refuse(Refusal::UserMode);
+    }
+    if !changes {
+        return Check::Refuse(Refusal::NotContext0);
     }
     Check::Pass
 }
@@ -146,6 +166,7 @@ pub fn check(o: Operation, r: Registers, m: usize, t: usize) -> Check
     let mode = mode_fits(kind, o.a);
     let domains = new_domains_fit(kind, o.a);
     let asked = may_ask(kind, r.mode);
+    let changes = root_may_change(kind, r.context);
     if !lengths {
         return Check::Refuse(Refusal::WrongLengths);
     }
@@ -161,7 +182,7 @@ pub fn check(o: Operation, r: Registers, m: usize, t: usize) -> Check
     if !value {
         return Check::Refuse(Refusal::WrongValue);
     }
-    check_new_values(root, context, mode, domains, asked)
+    check_new_values(root, context, mode, domains, asked, changes)
 }
 
 // The first check that a start fails.
@@ -193,5 +214,6 @@ pub fn refusal_number(n: Refusal) -> u32
         Refusal::UserMode => 15,
         Refusal::StalePage => 16,
         Refusal::WrongDomains => 17,
+        Refusal::NotContext0 => 20,
     }
 }

@@ -28,6 +28,7 @@ pub callCases : List (ℕ × ℕ)
 callCases =
     let kernel : List ℕ = 0 ∷ 0 ∷ 0 ∷ 0x55555555 ∷ [] in
     let closed : List ℕ = 0 ∷ 0 ∷ 0 ∷ 0x55555554 ∷ [] in
+    let other : List ℕ = 0 ∷ 1 ∷ 0 ∷ 0x55555555 ∷ [] in
     let started = startCall zeros track 0x80 (9 ∷ 9 ∷ 9 ∷ 9 ∷ []) in
     let refused = startCall zeros track 0x81 (9 ∷ 9 ∷ 9 ∷ 9 ∷ []) in
     let rooted = called 2 0x100 0 0 kernel in
@@ -81,6 +82,9 @@ callCases =
     ∷ (called 10 0x3 7 0xFFFFFFFF kernel .number, 0)
     ∷ (called 0 0x1000 4 0 closed .number, 0x10000000B)
     ∷ (called 10 0x2 0 0 kernel .number, 0x200000011)
+    -- `root` under context 1: refusal 20, and the registers as they were
+    ∷ (called 2 0x100 0 0 other .number, 0x200000014)
+    ∷ (register 0 (called 2 0x100 0 0 other), 0)
     -- refused: 7; and no such kind
     ∷ (called 0 0x1000 3 0 kernel .number, 0x200000007)
     ∷ (called 11 0 0 0 kernel .number, 0x300000000)

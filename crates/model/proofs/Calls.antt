@@ -250,12 +250,12 @@ unchanged x r p = go (ended x)
     go (done a e) = absurd (not-refused (shown (after x .answer)) r a p)
 
 -- the context left is one of the track's
-read-context : (x : Access) (size : Size) (r : Registers) (m t : List ℕ) → readFrom x size r m t .registers ≡ r
+pub read-context : (x : Access) (size : Size) (r : Registers) (m t : List ℕ) → readFrom x size r m t .registers ≡ r
 read-context Stale size r m t = refl
 read-context (Fails f) size r m t = refl
 read-context (Physical p) size r m t = refl
 
-write-context : (x : Access) (size : Size) (v : ℕ) (r : Registers) (m t : List ℕ) → writeTo x size v r m t .registers ≡ r
+pub write-context : (x : Access) (size : Size) (v : ℕ) (r : Registers) (m t : List ℕ) → writeTo x size v r m t .registers ≡ r
 write-context Stale size v r m t = refl
 write-context (Fails f) size v r m t = refl
 write-context (Physical p) size v r m t = refl

@@ -10,7 +10,7 @@ use Rattle.model.specs.step.Walk.{walkPage, firstAt, firstOf, secondAt, 
 use Rattle.model.specs.step.Rights.{kernelRights, userRights, rightsOf, permitted, fieldAt, rulingOf}
 use Rattle.model.specs.step.Rows.{inRow, eachRow}
 use Rattle.model.specs.step.Track.{isEntry, addEntry, notePage, lastRow, noteTrack, flushAll, flushPage, flushContext, flushPageIn, staleWord, stalePage}
-use Rattle.model.specs.step.Checks.{memoryFits, trackFits, lengthsFit, rootFits, fieldsFit, domainsFit, registersFit, sizeFits, addressFits, valueFits, newRootFits, contextFits, modeFits, newDomainsFit, mayAsk, checks, startChecks, firstFailing}
+use Rattle.model.specs.step.Checks.{memoryFits, trackFits, lengthsFit, rootFits, fieldsFit, domainsFit, registersFit, sizeFits, addressFits, valueFits, newRootFits, contextFits, modeFits, newDomainsFit, mayAsk, rootMayChange, checks, startChecks, firstFailing}
 use Rattle.model.specs.step.Machine.{After, permissionFaultOf, domainFaultOf, decided, accessAt, readStep, writeStep, fetchStep, operate, stepped, started}
 use Rattle.model.specs.Types.{Kind, Four}
 
@@ -37,7 +37,7 @@ unfoldable pub next : Kind → ℕ → ℕ → ℕ → After → After
 unfolding within loadAt writtenAt walkPage firstAt firstOf secondAt secondOf kernelRights userRights rightsOf permitted fieldAt rulingOf inRow
     eachRow isEntry addEntry notePage lastRow noteTrack flushAll flushPage flushContext flushPageIn staleWord stalePage memoryFits
     trackFits lengthsFit rootFits fieldsFit domainsFit registersFit sizeFits addressFits valueFits newRootFits contextFits modeFits newDomainsFit mayAsk
-    checks startChecks firstFailing permissionFaultOf domainFaultOf decided accessAt readStep writeStep fetchStep operate stepped started
+    rootMayChange checks startChecks firstFailing permissionFaultOf domainFaultOf decided accessAt readStep writeStep fetchStep operate stepped started
 next k a b c x = stepped (record { kind = k; a = a; b = b; c = c }) (x .registers) (x .memory) (x .track)
 
 -- an answer as one number: the value, or the number of a fault or a refusal, each above every value

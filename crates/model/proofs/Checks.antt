@@ -9,9 +9,9 @@ use lib.ListN.{length}
 use borrow.Author.Tests.{eqb-true, eqb-false, eq-eqb, ne-eqb, leb-true, le-leb}
 use Rattle.model.specs.Limits.{addressLimit, rowSize, rootAlignment, memoryUnit, memoryMost, contextsMost, wordLimit}
 use Rattle.model.specs.Numbers.{refusalNumber}
-use Rattle.model.specs.reference.Rules.{among, contexts, refuses7, refuses8, refuses9, refuses10, refuses11, refuses12, refuses13, refuses14, refuses15, refuses16, refuses17, conditions, startConditions}
+use Rattle.model.specs.reference.Rules.{among, contexts, refuses7, refuses8, refuses9, refuses10, refuses11, refuses12, refuses13, refuses14, refuses15, refuses16, refuses17, refuses20, conditions, startConditions}
 use Rattle.model.specs.step.Track.{lastRow}
-use Rattle.model.specs.step.Checks.{memoryFits, trackFits, lengthsFit, rootFits, domainsFit, registersFit, isSize, sizeFits, addressFits, fitsSize, valueFits, newRootFits, contextFits, modeFits, newDomainsFit, mayAsk, checks, startChecks}
+use Rattle.model.specs.step.Checks.{memoryFits, trackFits, lengthsFit, rootFits, domainsFit, registersFit, isSize, sizeFits, addressFits, fitsSize, valueFits, newRootFits, contextFits, modeFits, newDomainsFit, mayAsk, rootMayChange, checks, startChecks}
 use Rattle.model.specs.Demands.{Call, conditionsOf}
 use Rattle.model.specs.Types.{Registers, Operation, Kind, Read, Write, Root, Asid, Mode, All, Addr, Ctx, AddrCtx, Fetch, Domain, Refusal}
 use Rattle.model.proofs.BoolLaws.{same-test, and-both, not-ltb, not-leb, or-false, three-and, three-or, not-four, not-two}
@@ -202,6 +202,21 @@ asking-same AddrCtx a b c r = refl
 asking-same Fetch a b c r = refl
 asking-same Domain a b c r = refl
 
+-- 20
+pub changing-same : (k : Kind) (a b c : ℕ) (r : Registers) → not (rootMayChange k (r .context)) ≡ refuses20 (op k a b c) r
+unfolding rootMayChange refuses20 among
+changing-same Read a b c r = refl
+changing-same Write a b c r = refl
+changing-same Root a b c r = refl
+changing-same Asid a b c r = refl
+changing-same Mode a b c r = refl
+changing-same All a b c r = refl
+changing-same Addr a b c r = refl
+changing-same Ctx a b c r = refl
+changing-same AddrCtx a b c r = refl
+changing-same Fetch a b c r = refl
+changing-same Domain a b c r = refl
+
 -- checks as conditions: the number of the refusal, and that the check fails
 unfoldable pub asConditions : List (Bool × Refusal) → List (ℕ × Bool)
 asConditions [] = []
@@ -226,6 +241,7 @@ checks-same x = λ i.
     ∷ (12, mode-same k a b c i)
     ∷ (17, new-domains-same k a b c i)
     ∷ (15, asking-same k a b c (x .registers) i)
+    ∷ (20, changing-same k a b c (x .registers) i)
     ∷ staleCondition x
     ∷ []
   where

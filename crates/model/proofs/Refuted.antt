@@ -14,7 +14,7 @@ use Rattle.tlb.specs.Places.{Within}
 use Rattle.tlb.proofs.PlaceLaws.{within-none, within-dropped}
 use Rattle.model.specs.Limits.{pageSize, rowSize}
 use Rattle.model.specs.Numbers.{Result, ok, fault, refused, shown, refusalNumber}
-use Rattle.model.specs.reference.Rules.{Translation, found, failed, State, fresh, aligned, accesses, accessSize, outcome, setRegisters, effect, carriedOut, plainStep, trackWord, Scope, own, global, scopeOf, covers, Held, Places, heldScope, matches, heldFor, anyClash, Move, drop, load, isFree, putIn, move, moves, chipStep, flushPlace, flushes, walk, descriptor, tableWord, globalBy, domainOf, section, bits, value, inMemory, conditions, startConditions, Given, among, contexts, hasRow, refuses7, refuses8, refuses9, refuses10, refuses11, refuses12, refuses13, refuses14, refuses15, refuses16, refuses17, fieldOf, someField2, stale, kept, differs, noted, notedIn, chipOutcome, orWalk}
+use Rattle.model.specs.reference.Rules.{Translation, found, failed, State, fresh, aligned, accesses, accessSize, outcome, setRegisters, effect, carriedOut, plainStep, trackWord, Scope, own, global, scopeOf, covers, Held, Places, heldScope, matches, heldFor, anyClash, Move, drop, load, isFree, putIn, move, moves, chipStep, flushPlace, flushes, walk, descriptor, tableWord, globalBy, domainOf, section, bits, value, inMemory, conditions, startConditions, Given, among, contexts, hasRow, refuses7, refuses8, refuses9, refuses10, refuses11, refuses12, refuses13, refuses14, refuses15, refuses16, refuses17, refuses20, fieldOf, someField2, stale, kept, differs, noted, notedIn, chipOutcome, orWalk}
 use Rattle.model.specs.reference.Runs.{last, Checker, next, checkerRun, isRefused, told, seen, plainRun, Moment, chipStart, chipNext, chipRun, chipSeen, Holds}
 use Rattle.model.specs.step.Checks.{isSize, sizeFits, firstFailing}
 use Rattle.model.specs.step.Machine.{After, started, stepped}
@@ -154,12 +154,12 @@ start-free t e = (rw (image-length, e), rw (image-length, e))
 
 -- none of a change of root does
 root-free : (t : List ℕ) → length t ≡ 3072 → (firstHolding (conditions (toRoot 0x80) (at 0 .registers) image t) ≡ none) × (firstHolding (conditions (toRoot 0) (at 0x80 .registers) image t) ≡ none)
-unfolding conditions firstHolding refuses13 refuses14 someField2 fieldOf bits refuses7 refuses8 refuses9 refuses10 refuses11 refuses12 refuses17 refuses15 refuses16 among contexts toRoot at
+unfolding conditions firstHolding refuses13 refuses14 someField2 fieldOf bits refuses7 refuses8 refuses9 refuses10 refuses11 refuses12 refuses17 refuses15 refuses20 refuses16 among contexts toRoot at
 root-free t e = (rw (image-length, e), rw (image-length, e))
 
 -- and of the read only 16 can
 read-free : (t : List ℕ) → length t ≡ 3072 → firstHolding (conditions readPage2 (at 0 .registers) image t) ≡ cond (refuses16 readPage2 (at 0 .registers) image t) (some 16) none
-unfolding conditions firstHolding refuses13 refuses14 someField2 fieldOf bits refuses7 refuses8 refuses9 refuses10 refuses11 refuses12 refuses17 refuses15 among contexts readPage2 at
+unfolding conditions firstHolding refuses13 refuses14 someField2 fieldOf bits refuses7 refuses8 refuses9 refuses10 refuses11 refuses12 refuses17 refuses15 refuses20 among contexts readPage2 at
 read-free t e = rw (image-length, e)
 
 not-refused-is : (x : Result) → ((r : ℕ) → x ≡ refused r → ⊥) → isRefused x ≡ false

@@ -5,6 +5,7 @@ pub mod Numbers
 pub mod reference
 pub mod step
 pub mod Demands
+pub mod RootChanges
 pub mod Invisible
 pub mod Domains
 pub mod Wrong

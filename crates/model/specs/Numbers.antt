@@ -1,7 +1,7 @@
 -- The numbers that the rules give to kinds, faults and refusals, and what an answer shows.
 use Prim.Native.Nat.{ℕ}
 use mathlib.Core.Option.{Option, none, some}
-use Rattle.model.specs.Types.{Kind, Read, Write, Root, Asid, Mode, All, Addr, Ctx, AddrCtx, Fetch, Domain, Fault, Alignment, FirstUnmapped, SecondUnmapped, SectionDomain, PageDomain, SectionPermission, PagePermission, FirstOutside, SecondOutside, AccessOutside, Refusal, WrongSize, WrongAddress, WrongValue, WrongRoot, WrongContext, WrongMode, WrongLengths, WrongRegisters, UserMode, StalePage, WrongDomains, Answer, Done, Faulted, Refused, Check, Pass, Refuse}
+use Rattle.model.specs.Types.{Kind, Read, Write, Root, Asid, Mode, All, Addr, Ctx, AddrCtx, Fetch, Domain, Fault, Alignment, FirstUnmapped, SecondUnmapped, SectionDomain, PageDomain, SectionPermission, PagePermission, FirstOutside, SecondOutside, AccessOutside, Refusal, WrongSize, WrongAddress, WrongValue, WrongRoot, WrongContext, WrongMode, WrongLengths, WrongRegisters, UserMode, StalePage, WrongDomains, NotContext0, Answer, Done, Faulted, Refused, Check, Pass, Refuse}
 
 -- the place of a kind in the rules' list of operations
 abbrev pub kindNumber : Kind → ℕ
@@ -42,6 +42,7 @@ refusalNumber WrongRegisters = 14
 refusalNumber UserMode = 15
 refusalNumber StalePage = 16
 refusalNumber WrongDomains = 17
+refusalNumber NotContext0 = 20
 
 -- An answer as the rules name it: `ok` with the value read or 0, `fault` with its number, `refused` with its number.
 pub data Result : Type 0 where

@@ -7,7 +7,7 @@ pub use Rattle.model.specs.declared.Entry.{Entry}
 pub use Rattle.model.specs.declared.Fault.{Fault}
 pub use Rattle.model.specs.declared.Fault.the-variants.{Alignment, FirstUnmapped, SecondUnmapped, SectionDomain, PageDomain, SectionPermission, PagePermission, FirstOutside, SecondOutside, AccessOutside}
 pub use Rattle.model.specs.declared.Refusal.{Refusal}
-pub use Rattle.model.specs.declared.Refusal.the-variants.{WrongSize, WrongAddress, WrongValue, WrongRoot, WrongContext, WrongMode, WrongLengths, WrongRegisters, UserMode, StalePage, WrongDomains}
+pub use Rattle.model.specs.declared.Refusal.the-variants.{WrongSize, WrongAddress, WrongValue, WrongRoot, WrongContext, WrongMode, WrongLengths, WrongRegisters, UserMode, StalePage, WrongDomains, NotContext0}
 pub use Rattle.model.specs.declared.Answer.{Answer}
 pub use Rattle.model.specs.declared.Answer.the-variants.{Done, Faulted, Refused}
 pub use Rattle.model.specs.declared.Returned.{Returned}

@@ -72,6 +72,7 @@ pub enum Refusal {
     UserMode,
     StalePage,
     WrongDomains,
+    NotContext0,
 }
 
 // What a start or an operation answers: carried out with a value, carried out with a fault, or turned back.

@@ -50,6 +50,13 @@ runs =
       quoted
           "line,op,answer,value\n2,write,ok,0\n3,all,ok,0\n4,domain,ok,0\n5,read,fault,9\n6,domain,ok,0\n7,mode,ok,0\n8,fetch,ok,402\n9,domain,refused,11\na,domain,refused,f\nb,mode,ok,0\nc,domain,refused,11\nd,domain,ok,0\ne,mode,ok,0\nf,read,fault,d\n",
     )
+    -- `root` under context 1, to another root and to the same; a bad root, and user mode; then through context 0
+    ∷ (
+      reportText 4096 globalSection (quoted
+          "op,a,b,c\nasid,1,0,0\nroot,80,0,0\nroot,0,0,0\nroot,40,0,0\nmode,1,0,0\nroot,80,0,0\nroot,40,0,0\nmode,0,0,0\nread,0,4,0\nasid,0,0,0\nroot,80,0,0\nasid,1,0,0\nread,0,4,0\n"),
+      quoted
+          "line,op,answer,value\n2,asid,ok,0\n3,root,refused,14\n4,root,refused,14\n5,root,refused,a\n6,mode,ok,0\n7,root,refused,f\n8,root,refused,a\n9,mode,ok,0\na,read,ok,c02\nb,asid,ok,0\nc,root,ok,0\nd,asid,ok,0\ne,read,refused,10\n",
+    )
     ∷ []
 
 -- Lists that are turned back.

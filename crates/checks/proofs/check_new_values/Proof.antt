@@ -36,13 +36,23 @@ returns-5 c = let i4 = c .before in let i3 = i4 .before in let i2 = i3 .before i
     failed _ _ refl (c .if5 .taken)))))
 
 returns-6 : tie.Need-returns-6
-returns-6 c = let i4 = c .before in let i3 = i4 .before in let i2 = i3 .before in let i1 = i2 .before in
+returns-6 c = let i5 = c .before in let i4 = i5 .before in let i3 = i4 .before in let i2 = i3 .before in let i1 = i2 .before in
     passed _ _ refl (i1 .if1 .left) (
     passed _ _ refl (i2 .if2 .left) (
     passed _ _ refl (i3 .if3 .left) (
     passed _ _ refl (i4 .if4 .left) (
-    passed _ _ refl (c .if5 .left) (
-    none-left)))))
+    passed _ _ refl (i5 .if5 .left) (
+    failed _ _ refl (c .if6 .taken))))))
+
+returns-7 : tie.Need-returns-7
+returns-7 c = let i5 = c .before in let i4 = i5 .before in let i3 = i4 .before in let i2 = i3 .before in let i1 = i2 .before in
+    passed _ _ refl (i1 .if1 .left) (
+    passed _ _ refl (i2 .if2 .left) (
+    passed _ _ refl (i3 .if3 .left) (
+    passed _ _ refl (i4 .if4 .left) (
+    passed _ _ refl (i5 .if5 .left) (
+    passed _ _ refl (c .if6 .left) (
+    none-left))))))
 
 pub check-new-values-spec : {M : Type 1} → statement M
-check-new-values-spec = tie.close (tie.spec returns returns-2 returns-3 returns-4 returns-5 returns-6)
+check-new-values-spec = tie.close (tie.spec returns returns-2 returns-3 returns-4 returns-5 returns-6 returns-7)

@@ -501,12 +501,16 @@ refuses16 o r m t =
 unfoldable pub refuses17 : Operation → Bool
 refuses17 o = among (o .kind) (Domain ∷ []) && wrongDomains (o .a)
 
--- An operation is tested for 13, 14, then 7 to 12, 17, 15, then 16.
+-- 20 root while the context is not 0, whatever the new root is
+unfoldable pub refuses20 : Operation → Registers → Bool
+refuses20 o r = among (o .kind) (Root ∷ []) && not (eqb (r .context) 0)
+
+-- An operation is tested for 13, 14, then 7 to 12, 17, 15, 20, then 16.
 unfoldable pub conditions : Operation → Registers → List ℕ → List ℕ → List (ℕ × Bool)
 conditions o r m t =
     (13, refuses13 m t) ∷ (14, refuses14 r (contexts t))
     ∷ (7, refuses7 o) ∷ (8, refuses8 o) ∷ (9, refuses9 o) ∷ (10, refuses10 o) ∷ (11, refuses11 o (contexts t)) ∷ (12, refuses12 o)
-    ∷ (17, refuses17 o) ∷ (15, refuses15 o r) ∷ (16, refuses16 o r m t) ∷ []
+    ∷ (17, refuses17 o) ∷ (15, refuses15 o r) ∷ (20, refuses20 o r) ∷ (16, refuses16 o r m t) ∷ []
 
 -- Start can give 13 and 10, 13 first.
 unfoldable pub startConditions : List ℕ → List ℕ → ℕ → List (ℕ × Bool)

@@ -7,7 +7,7 @@ use lib.Dec.{eqb, leb, ltb}
 use Rattle.model.specs.Limits.{addressLimit, rowSize, rootAlignment, memoryUnit, memoryMost, contextsMost, wordLimit}
 use Rattle.model.specs.Numbers.{checkNumber}
 use Rattle.model.specs.step.Track.{lastRow}
-use Rattle.model.specs.Types.{Registers, Operation, Kind, Read, Write, Root, Asid, Mode, All, Addr, Ctx, AddrCtx, Fetch, Domain, Refusal, WrongSize, WrongAddress, WrongValue, WrongRoot, WrongContext, WrongMode, WrongLengths, WrongRegisters, UserMode, WrongDomains, Check, Pass, Refuse}
+use Rattle.model.specs.Types.{Registers, Operation, Kind, Read, Write, Root, Asid, Mode, All, Addr, Ctx, AddrCtx, Fetch, Domain, Refusal, WrongSize, WrongAddress, WrongValue, WrongRoot, WrongContext, WrongMode, WrongLengths, WrongRegisters, UserMode, WrongDomains, NotContext0, Check, Pass, Refuse}
 
 -- whether n bytes can be a memory, and n words a track
 unfoldable pub memoryFits : ℕ → Bool
@@ -147,6 +147,20 @@ mayAsk AddrCtx mode = eqb mode 0
 mayAsk Fetch mode = true
 mayAsk Domain mode = eqb mode 0
 
+-- whether the operation, if it sets the root, may do so in this context
+unfoldable pub rootMayChange : Kind → ℕ → Bool
+rootMayChange Read context = true
+rootMayChange Write context = true
+rootMayChange Root context = eqb context 0
+rootMayChange Asid context = true
+rootMayChange Mode context = true
+rootMayChange All context = true
+rootMayChange Addr context = true
+rootMayChange Ctx context = true
+rootMayChange AddrCtx context = true
+rootMayChange Fetch context = true
+rootMayChange Domain context = true
+
 -- the checks of an operation on a memory of m bytes and a track of t words: what should hold, and the refusal where it does not
 unfoldable pub checks : Operation → Registers → ℕ → ℕ → List (Bool × Refusal)
 checks o r m t =
@@ -160,6 +174,7 @@ checks o r m t =
     ∷ (modeFits (o .kind) (o .a), WrongMode)
     ∷ (newDomainsFit (o .kind) (o .a), WrongDomains)
     ∷ (mayAsk (o .kind) (r .mode), UserMode)
+    ∷ (rootMayChange (o .kind) (r .context), NotContext0)
     ∷ []
 
 -- the checks of a start
