@@ -141,27 +141,193 @@ fn the_list() {
     assert!(memory == expected);
 }
 
-/// Roots 0 and 0x80 map page 0 alike and page 1 differently, each with nG set: under the new context only page 1 is left at 1.
+/// What the rows of two contexts and the global row hold of pages 0 and 1.
+fn rows(track: &[u32]) -> [[u32; 2]; 3] {
+    [0, 1024, 2048].map(|at| [track[at], track[at + 1]])
+}
+
+/// Words with which roots 0 and 0x80 map page 0 alike and page 1 differently, each with nG set.
+const TWO_MAPS: [(usize, u32); 4] = [
+    (0x400, 0x832),
+    (0x80, 0x801),
+    (0x800, 0x832),
+    (0x804, 0x4832),
+];
+
+/// `root` under context 1 is refused, and leaves registers, memory and track as they are. Under
+/// context 0 it is set, and only page 1 is left at 1 there.
 #[test]
 fn asid_then_root() {
-    let mut memory = image_a();
-    put(&mut memory, &[(0x400, 0x832), (0x80, 0x801)]);
-    put(&mut memory, &[(0x800, 0x832), (0x804, 0x4832)]);
-    let mut track = track(2);
-    let mut registers = [0; 4];
-    assert_eq!(calls::start(&memory, &mut track, 0, &mut registers), 0);
-    for operation in [[ASID, 1, 0, 0], [ROOT, 0x80, 0, 0]] {
-        let answer = calls::step(&operation, &mut registers, &mut memory, &mut track);
-        assert_eq!(answer, 0);
-    }
-    assert_eq!(registers, [0x80, 1, 0, CLIENTS]);
-    assert_eq!(track[..2], [0x602, 0x3602]);
-    assert_eq!(track[1024..1026], [0x602, 1]);
-    assert!(track[2048..].iter().all(|&word| word == 0));
+    let mut started = Started::of(2, &TWO_MAPS);
+    assert_eq!(started.step([ASID, 1, 0, 0]), 0);
+    let before = started.clone();
+    assert_eq!(started.step([ROOT, 0x80, 0, 0]), 0x2_0000_0014);
+    assert!(started == before);
+    assert_eq!(started.registers, [0, 1, 0, CLIENTS]);
+    let left = [[0x602, 0x3602], [0x602, 0x3602], [0, 0]];
+    assert_eq!(rows(&started.track), left);
+    assert_eq!(started.step([READ, 0x1000, 4, 0]), 0x1234_5678);
+    assert_eq!(started.step([ASID, 0, 0, 0]), 0);
+    assert_eq!(started.step([ROOT, 0x80, 0, 0]), 0);
+    assert_eq!(started.registers, [0x80, 0, 0, CLIENTS]);
+    let left = [[0x602, 1], [0x602, 0x3602], [0, 0]];
+    assert_eq!(rows(&started.track), left);
+    assert!(started.track[2048..].iter().all(|&word| word == 0));
     for (page, answer) in [(0, 0x401), (1, REFUSAL + 16)] {
-        let read = [READ, 0x1000 * page, 4, 0];
-        let found = calls::step(&read, &mut registers, &mut memory, &mut track);
-        assert_eq!(found, answer);
+        assert_eq!(started.step([READ, 0x1000 * page, 4, 0]), answer);
+    }
+}
+
+/// Context 1 sees the map of root 0, context 0 changes the root, and context 1 sees the other map:
+/// page 1 is then stale under both. Its words under both are at 1 if nG is set in both maps, its
+/// word in the global row if nG is clear in both, and none if nG differs.
+#[test]
+fn asid_then_root_through_context_0() {
+    for (old, new, own, global) in [
+        (0x3832, 0x4832, 1, 0),
+        (0x3032, 0x4032, 0, 1),
+        (0x3832, 0x4032, 0x3602, 0x4682),
+        (0x3032, 0x4832, 0x4602, 0x3682),
+    ] {
+        let page_1 = [(0x404, old), (0x804, new)];
+        let mut started = Started::of(2, &[&TWO_MAPS[..], &page_1].concat());
+        let switch = [[ASID, 1], [ASID, 0], [ROOT, 0x80], [ASID, 1]];
+        for [kind, a] in switch {
+            assert_eq!(started.step([kind, a, 0, 0]), 0);
+        }
+        assert_eq!(started.registers, [0x80, 1, 0, CLIENTS]);
+        let left = [[0x602, own], [0x602, own], [0, global]];
+        assert_eq!(rows(&started.track), left, "{old:x} to {new:x}");
+        for context in [1, 0] {
+            assert_eq!(started.step([ASID, context, 0, 0]), 0);
+            assert_eq!(started.step([READ, 0x0, 4, 0]), 0x401);
+            let given = started.step([READ, 0x1000, 4, 0]);
+            assert_eq!(given, REFUSAL + 16, "{old:x} to {new:x}, {context}");
+        }
+    }
+}
+
+/// Context 0 changes the root and context 1 sees the new map alone, then back the same way. What
+/// each step answers, and what the two contexts' rows hold of page 1 afterwards.
+#[test]
+fn a_switch_through_context_0_and_back() {
+    let read = [READ, 0x1000, 4, 0];
+    let mut started = Started::of(2, &TWO_MAPS);
+    for (operation, answer, page_1) in [
+        (read, 0x1234_5678, [0x3602, 0]),
+        ([ROOT, 0x80, 0, 0], 0, [1, 0]),
+        (read, REFUSAL + 16, [1, 0]),
+        ([ASID, 1, 0, 0], 0, [1, 0x4602]),
+        (read, 0x1122_3344, [1, 0x4602]),
+        ([ROOT, 0x0, 0, 0], REFUSAL + 20, [1, 0x4602]),
+        ([ASID, 0, 0, 0], 0, [1, 0x4602]),
+        (read, REFUSAL + 16, [1, 0x4602]),
+        ([ROOT, 0x0, 0, 0], 0, [1, 0x4602]),
+        (read, REFUSAL + 16, [1, 0x4602]),
+        ([ASID, 1, 0, 0], 0, [1, 1]),
+        (read, REFUSAL + 16, [1, 1]),
+        ([CTX, 1, 0, 0], 0, [1, 0x3602]),
+        (read, 0x1234_5678, [1, 0x3602]),
+        ([ASID, 0, 0, 0], 0, [1, 0x3602]),
+        ([CTX, 0, 0, 0], 0, [0x3602, 0x3602]),
+        (read, 0x1234_5678, [0x3602, 0x3602]),
+    ] {
+        let given = started.step(operation);
+        let [own_0, own_1, global] = rows(&started.track).map(|[_, page_1]| page_1);
+        let left = (given, [own_0, own_1], global);
+        assert_eq!(left, (answer, page_1, 0), "{operation:x?}");
+    }
+    assert_eq!(started.registers, [0, 0, 0, CLIENTS]);
+}
+
+/// Of two contexts: how many words the track has, the registers, the new root, and by which number
+/// `root` is refused. 20 is for the root that is held as for any other, after 13, 14, 10 and 15.
+const REFUSED_ROOTS: [(usize, [u32; 4], u32, u64); 19] = [
+    (3071, [0, 1, 0, CLIENTS], 0x80, 13),
+    (3071, [0x40, 2, 2, 2], 0x40, 13),
+    (3072, [0, 2, 0, CLIENTS], 0x80, 14),
+    (3072, [0x40, 1, 0, CLIENTS], 0x80, 14),
+    (3072, [0, 1, 2, CLIENTS], 0x80, 14),
+    (3072, [0, 1, 0, 2], 0x80, 14),
+    (3072, [0, 2, 1, CLIENTS], 0x40, 14),
+    (3072, [0, 0, 0, CLIENTS], 0x40, 10),
+    (3072, [0, 1, 0, CLIENTS], 0x40, 10),
+    (3072, [0, 1, 0, CLIENTS], u32::MAX, 10),
+    (3072, [0, 1, 1, CLIENTS], 0x40, 10),
+    (3072, [0, 0, 1, CLIENTS], 0x80, 15),
+    (3072, [0, 1, 1, CLIENTS], 0x80, 15),
+    (3072, [0, 1, 1, CLIENTS], 0x0, 15),
+    (3072, [0, 1, 0, CLIENTS], 0x80, 20),
+    (3072, [0, 1, 0, CLIENTS], 0x0, 20),
+    (3072, [0x80, 1, 0, CLIENTS], 0x80, 20),
+    (3072, [0, 1, 0, CLIENTS], 0x8000, 20),
+    (3072, [0, 1, 0, 0], 0x80, 20),
+];
+
+#[test]
+fn refused_roots_leave_everything() {
+    let image = image_a();
+    // Words that noting would fill, and words that a flush would empty.
+    let lent: Vec<u32> = (0..3072).map(|at| 7 * (at % 2)).collect();
+    let (mut memory, mut track) = (image.clone(), lent.clone());
+    for (words, given, new, refusal) in REFUSED_ROOTS {
+        for [b, c] in [[0, 0], [u32::MAX, 7]] {
+            let mut registers = given;
+            let track = &mut track[..words];
+            let root = [ROOT, new, b, c];
+            let answer = calls::step(&root, &mut registers, &mut memory, track);
+            assert_eq!(answer, REFUSAL + refusal, "{root:x?}, {given:x?}");
+            assert_eq!(registers, given);
+        }
+    }
+    assert!(memory == image);
+    assert!(track == lent);
+}
+
+/// Of 256 contexts: `root` is set under context 0 and refused under each other one.
+#[test]
+fn roots_under_each_context() {
+    let mut started = Started::of(256, &TWO_MAPS);
+    for context in 0..256 {
+        assert_eq!(started.step([ASID, context, 0, 0]), 0);
+        for root in [0x80, 0x0] {
+            let expected = if context == 0 { 0 } else { REFUSAL + 20 };
+            let answer = started.step([ROOT, root, 0, 0]);
+            assert_eq!(answer, expected, "root {root:#x}, context {context}");
+        }
+        assert_eq!(started.registers, [0, context, 0, CLIENTS]);
+    }
+}
+
+/// Under another context every operation but `root` answers as it does under context 0, `asid` to
+/// any context among them.
+#[test]
+fn other_operations_under_another_context() {
+    for context in [0, 1, 2] {
+        let mut started = Started::of(3, &TWO_MAPS);
+        assert_eq!(started.step([ASID, context, 0, 0]), 0);
+        for (operation, answer) in [
+            ([READ, 0x1000, 4, 0], 0x1234_5678),
+            ([WRITE, 0x1000, 4, 0x55], 0),
+            ([FETCH, 0x1000, 0, 0], 0x55),
+            ([MODE, 1, 0, 0], 0),
+            ([MODE, 0, 0, 0], 0),
+            ([DOMAIN, CLIENTS ^ 1, 0, 0], 0),
+            ([READ, 0x1000, 4, 0], FAULT + 0xb),
+            ([DOMAIN, CLIENTS, 0, 0], 0),
+            ([ALL, 0, 0, 0], 0),
+            ([ADDR, 0x1000, 0, 0], 0),
+            ([CTX, 0, 0, 0], 0),
+            ([ADDRCTX, 0x1000, 2, 0], 0),
+            ([READ, 0x1000, 2, 0], 0x55),
+            ([ASID, context, 0, 0], 0),
+            ([ASID, 2, 0, 0], 0),
+            ([ASID, 1, 0, 0], 0),
+            ([ASID, 0, 0, 0], 0),
+        ] {
+            let given = started.step(operation);
+            assert_eq!(given, answer, "{operation:x?}, context {context}");
+        }
     }
 }
 
@@ -174,7 +340,6 @@ fn a_global_page() {
     let mut track = track(2);
     let mut registers = [0; 4];
     assert_eq!(calls::start(&memory, &mut track, 0, &mut registers), 0);
-    let rows = |track: &[u32]| [0, 1024, 2048].map(|at| [track[at], track[at + 1]]);
     assert_eq!(rows(&track), [[0x202, 0], [0, 0], [0, 0x3682]]);
     // What each operation answers, and what the rows hold of pages 0 and 1 afterwards.
     let steps: [([u32; 4], u64, [[u32; 2]; 3]); 9] = [
@@ -226,7 +391,8 @@ fn a_global_page() {
     assert_eq!(given, REFUSAL + 16);
 }
 
-/// A machine of one context started on image A with these words put in.
+/// A machine started on image A.
+#[derive(Clone, PartialEq)]
 struct Started {
     memory: Vec<u8>,
     track: Vec<u32>,
@@ -234,8 +400,14 @@ struct Started {
 }
 
 impl Started {
+    /// Of one context, with these words put in.
     fn with(words: &[(usize, u32)]) -> Started {
-        let (mut memory, mut track, mut registers) = (image_a(), track(1), [9; 4]);
+        Started::of(1, words)
+    }
+
+    /// Of this many contexts, with these words put in.
+    fn of(contexts: usize, words: &[(usize, u32)]) -> Started {
+        let (mut memory, mut track, mut registers) = (image_a(), track(contexts), [9; 4]);
         put(&mut memory, words);
         assert_eq!(calls::start(&memory, &mut track, 0, &mut registers), 0);
         Started {

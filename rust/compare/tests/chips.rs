@@ -87,6 +87,8 @@ struct Seen {
     fields: Tally<(By, u32)>,
     /// Fetches that XN stops.
     stops: Tally<By>,
+    /// Of `root`, with whether it is another root than the one held.
+    roots: Tally<(bool, Answer)>,
 }
 
 impl Seen {
@@ -96,6 +98,10 @@ impl Seen {
             Answer::Ok(_) => (o.kind, Answer::Ok(0)),
             other => (o.kind, other),
         });
+        if o.kind == Kind::Root {
+            let another = o.a != chip.plain.registers.root;
+            self.roots.add((another, answer));
+        }
         if matches!(answer, Answer::Refused(_)) {
             return;
         }
@@ -119,6 +125,13 @@ impl Seen {
         self.fields
             .must_have("fields of domains, by", fields.concat());
         self.stops.must_have("fetches stopped by XN, by", BY);
+        let ended = [Answer::Ok(0), Answer::Refused(15), Answer::Refused(20)];
+        let roots = [false, true].map(|another| ended.map(|answer| (another, answer)));
+        let no_root = [(true, Answer::Refused(10))];
+        self.roots.must_have(
+            "root, of another",
+            roots.concat().into_iter().chain(no_root),
+        );
         let carried = KINDS.map(|(kind, _, _)| (kind, Answer::Ok(0)));
         let stale = ACCESSES.map(|kind| (kind, Answer::Refused(16)));
         let permission = [fault::PERMISSION_SECTION, fault::PERMISSION_PAGE];

@@ -5,8 +5,8 @@ use model::list::report;
 use model::random::Random;
 use model::walk::fault;
 
-/// The report of a generated image and list, which has to be the model's.
-fn compared(case: u64, random: &mut Random) -> String {
+/// A generated list, and its report on a generated image, which has to be the model's.
+fn compared(case: u64, random: &mut Random) -> (Vec<u8>, String) {
     let image = generate::image_file(random);
     let memory = image.as_ref().map_or(0, Vec::len) as u32;
     let list = generate::list(random, memory);
@@ -23,37 +23,87 @@ fn compared(case: u64, random: &mut Random) -> String {
         let folder = keep("report", case, &files);
         panic!("the reports differ; they are in {}", folder.display());
     }
-    expected
+    (list, expected)
+}
+
+/// What a line of a report says: `ok`, or `fault` or `refused` with its number.
+type Answer = (String, String);
+
+fn answer(word: &str, number: &str) -> Answer {
+    let number = if word == "ok" { "" } else { number };
+    (word.to_string(), number.to_string())
+}
+
+fn faulted(n: u32) -> Answer {
+    answer("fault", &format!("{n:x}"))
+}
+
+fn refused(n: u32) -> Answer {
+    answer("refused", &format!("{n:x}"))
+}
+
+/// What the lines of reports said.
+#[derive(Default)]
+struct Seen {
+    all: Tally<Answer>,
+    fetches: Tally<Answer>,
+    domains: Tally<Answer>,
+    /// Of `root`, and whether the context was 0.
+    roots: Tally<(bool, Answer)>,
+}
+
+impl Seen {
+    /// Adds the report of a list. Under another context than 0 a root is refused, and nothing else
+    /// is refused by 20.
+    fn add(&mut self, list: &[u8], report: &str) {
+        let list = String::from_utf8_lossy(list);
+        let mut lines = list.lines().skip(1);
+        let mut in_0 = true;
+        for said in report.lines().skip(1) {
+            let line = lines.next().unwrap_or_default();
+            let fields: Vec<&str> = said.split(',').collect();
+            let answer = answer(fields[2], fields[3]);
+            let elsewhere = fields[1] == "root" && !in_0;
+            assert!(!elsewhere || fields[2] == "refused", "{line}: {said}");
+            assert!(elsewhere || answer != refused(20), "{line}: {said}");
+            match (fields[1], fields[2]) {
+                ("fetch", _) => self.fetches.add(answer.clone()),
+                ("domain", _) => self.domains.add(answer.clone()),
+                ("root", _) => self.roots.add((in_0, answer.clone())),
+                ("asid", "ok") => in_0 = line == "asid,0,0,0",
+                _ => (),
+            }
+            self.all.add(answer);
+        }
+    }
+
+    fn must_have(&self) {
+        let faults = || {
+            let faults = fault::OF_WALKS.into_iter().chain(fault::OF_ACCESSES);
+            faults.map(faulted)
+        };
+        let refusals = (1..=17).filter(|n| *n != 14).chain([20]).map(refused);
+        self.all.must_have("reports", faults().chain(refusals));
+        let ok = answer("ok", "");
+        let others = [ok.clone(), refused(8), refused(16)];
+        self.fetches.must_have("fetches", faults().chain(others));
+        let set = [ok.clone(), refused(15), refused(17)];
+        self.domains.must_have("domain", set);
+        let in_0 = [ok, refused(10), refused(15)].map(|answer| (true, answer));
+        let elsewhere = [10, 15, 20].map(|n| (false, refused(n)));
+        let roots = in_0.into_iter().chain(elsewhere);
+        self.roots.must_have("root, in context 0 or another", roots);
+    }
 }
 
 #[test]
 fn reports() {
-    let mut seen = Tally::new();
-    let mut fetches = Tally::new();
-    let mut domains = Tally::new();
+    let mut seen = Seen::default();
     for (case, mut random) in cases(400) {
-        for line in compared(case, &mut random).lines().skip(1) {
-            let fields: Vec<&str> = line.split(',').collect();
-            let number = if fields[2] == "ok" { "" } else { fields[3] };
-            let answer = (fields[2].to_string(), number.to_string());
-            match fields[1] {
-                "fetch" => fetches.add(answer.clone()),
-                "domain" => domains.add(answer.clone()),
-                _ => (),
-            }
-            seen.add(answer);
-        }
+        let (list, report) = compared(case, &mut random);
+        seen.add(&list, &report);
     }
-    let named = |word: &str, n: u32| (word.to_string(), format!("{n:x}"));
-    let faults = fault::OF_WALKS.into_iter().chain(fault::OF_ACCESSES);
-    let faults: Vec<(String, String)> = faults.map(|n| named("fault", n)).collect();
-    let refusals = (1..=17).filter(|n| *n != 14).map(|n| named("refused", n));
-    seen.must_have("reports", faults.iter().cloned().chain(refusals));
-    let ok = ("ok".to_string(), String::new());
-    let others = [ok.clone(), named("refused", 8), named("refused", 16)];
-    fetches.must_have("fetches", faults.into_iter().chain(others));
-    let set = [ok, named("refused", 15), named("refused", 17)];
-    domains.must_have("domain", set);
+    seen.must_have();
 }
 
 /// What the program prints behind its header, which has to be what the model says.
@@ -83,58 +133,187 @@ fn the_listing() {
     assert_eq!(programs::replay(list, Some(image)), expected.as_bytes());
 }
 
-/// Roots 0 and 0x80 map page 0 alike and page 1 differently, each with nG set.
-#[test]
-fn asid_then_root() {
-    let first = [(0x0, 0x401), (0x400, 0x832), (0x404, 0x3832)];
-    let second = [(0x80, 0x801), (0x800, 0x832), (0x804, 0x4832)];
-    let image = image(&[first, second].concat());
-    let found = lines(
-        &image,
-        "asid,1,0,0\nroot,80,0,0\nread,1000,4,0\nread,0,4,0\nroot,0,0,0\nread,1000,4,0\n",
-    );
-    let expected = [
-        "2,asid,ok,0",
-        "3,root,ok,0",
-        "4,read,refused,10",
-        "5,read,ok,401",
-        "6,root,ok,0",
-        "7,read,refused,10",
-    ];
-    assert_eq!(found, expected);
+/// Roots 0 and 0x80 map page 0 alike, and page 1 by these words: to 0x3000 or 0x4000.
+fn two_maps(old: u32, new: u32) -> Vec<u8> {
+    let first = [(0x0, 0x401), (0x400, 0x832), (0x404, old)];
+    let second = [(0x80, 0x801), (0x800, 0x832), (0x804, new)];
+    let words = [(0x3000, 0x1234_5678), (0x4000, 0x1122_3344)];
+    image(&[&first[..], &second, &words].concat())
 }
 
-/// As above, but of page 1 one map or both have nG clear: its old entry then stands in the global
-/// set, or the new one does, and it is stale under the new context all the same. A flush of that
-/// context helps only where no global entry is left over.
+/// Page 1 is mapped differently, with nG set. `root` is refused under each context but 0, and
+/// nothing changes by that, there or in context 0. Under context 0 it is set, page 0 is trusted,
+/// and page 1 is stale from then on, also with the old root.
+#[test]
+fn asid_then_root() {
+    let image = two_maps(0x3832, 0x4832);
+    let list = |context: u32| {
+        format!(
+            "asid,{context:x},0,0\nroot,80,0,0\nread,1000,4,0\nread,0,4,0\nasid,0,0,0\n\
+             read,1000,4,0\nroot,0,0,0\nread,1000,4,0\n"
+        )
+    };
+    let (kept, stale) = ("read,ok,12345678", "read,refused,10");
+    for context in 0..8 {
+        let (root, page_1) = match context {
+            0 => ("root,ok,0", stale),
+            _ => ("root,refused,14", kept),
+        };
+        let expected = [
+            "2,asid,ok,0".to_string(),
+            format!("3,{root}"),
+            format!("4,{page_1}"),
+            "5,read,ok,401".to_string(),
+            "6,asid,ok,0".to_string(),
+            format!("7,{page_1}"),
+            "8,root,ok,0".to_string(),
+            format!("9,{page_1}"),
+        ];
+        assert_eq!(lines(&image, &list(context)), expected, "{context}");
+    }
+}
+
+/// Context 1 sees the old map, context 0 changes the root, and context 1 sees the new one: page 1
+/// is stale there where the two differ, nG among the rest, and so it is in context 0, which saw
+/// both. A flush of context 1 helps only where no global entry is left over.
 #[test]
 fn asid_then_root_with_global_pages() {
+    let (stale, old_word, new_word) = ("refused,10", "ok,12345678", "ok,11223344");
     for (old, new, answers) in [
-        (0x3032, 0x4032, ["refused,10", "refused,10", "refused,10"]),
-        (0x3032, 0x4832, ["refused,10", "refused,10", "refused,10"]),
-        (0x3832, 0x4032, ["refused,10", "ok,0", "refused,10"]),
-        (0x3832, 0x3032, ["refused,10", "ok,0", "refused,10"]),
-        (0x3032, 0x3032, ["ok,0", "ok,0", "ok,0"]),
+        (0x3832, 0x4832, [stale, new_word, stale]),
+        (0x3032, 0x4032, [stale, stale, stale]),
+        (0x3032, 0x4832, [stale, stale, stale]),
+        (0x3832, 0x4032, [stale, new_word, stale]),
+        (0x3832, 0x3032, [stale, old_word, stale]),
+        (0x3032, 0x3032, [old_word, old_word, old_word]),
+        (0x3832, 0x3832, [old_word, old_word, old_word]),
     ] {
-        let first = [(0x0, 0x401), (0x400, 0x832), (0x404, old)];
-        let second = [(0x80, 0x801), (0x800, 0x832), (0x804, new)];
-        let image = image(&[first, second].concat());
         let found = lines(
-            &image,
-            "asid,1,0,0\nroot,80,0,0\nread,1000,4,0\nctx,1,0,0\nread,1000,4,0\nasid,0,0,0\n\
-             read,1000,4,0\n",
+            &two_maps(old, new),
+            "asid,1,0,0\nasid,0,0,0\nroot,80,0,0\nasid,1,0,0\nread,1000,4,0\nctx,1,0,0\n\
+             read,1000,4,0\nasid,0,0,0\nread,1000,4,0\n",
         );
         let [switched, flushed, back] = answers;
         let expected = [
             "2,asid,ok,0".to_string(),
-            "3,root,ok,0".to_string(),
-            format!("4,read,{switched}"),
-            "5,ctx,ok,0".to_string(),
-            format!("6,read,{flushed}"),
-            "7,asid,ok,0".to_string(),
-            format!("8,read,{back}"),
+            "3,asid,ok,0".to_string(),
+            "4,root,ok,0".to_string(),
+            "5,asid,ok,0".to_string(),
+            format!("6,read,{switched}"),
+            "7,ctx,ok,0".to_string(),
+            format!("8,read,{flushed}"),
+            "9,asid,ok,0".to_string(),
+            format!("a,read,{back}"),
         ];
         assert_eq!(found, expected, "{old:x} to {new:x}");
+    }
+}
+
+/// Through context 0 to a context of its own for each map, and back: page 1, which has nG set, is
+/// stale in context 0, which saw both maps, and in no other until it sees a second one.
+#[test]
+fn switches_through_context_0() {
+    let found = lines(
+        &two_maps(0x3832, 0x4832),
+        "read,1000,4,0\nroot,80,0,0\nread,1000,4,0\nasid,1,0,0\nread,1000,4,0\nasid,0,0,0\n\
+         root,0,0,0\nread,1000,4,0\nasid,2,0,0\nread,1000,4,0\nasid,0,0,0\nroot,80,0,0\n\
+         asid,2,0,0\nread,1000,4,0\nctx,2,0,0\nread,1000,4,0\nasid,1,0,0\nread,1000,4,0\n\
+         asid,0,0,0\nread,1000,4,0\nctx,0,0,0\nread,1000,4,0\n",
+    );
+    let expected = [
+        "2,read,ok,12345678",
+        "3,root,ok,0",
+        "4,read,refused,10",
+        "5,asid,ok,0",
+        "6,read,ok,11223344",
+        "7,asid,ok,0",
+        "8,root,ok,0",
+        "9,read,refused,10",
+        "a,asid,ok,0",
+        "b,read,ok,12345678",
+        "c,asid,ok,0",
+        "d,root,ok,0",
+        "e,asid,ok,0",
+        "f,read,refused,10",
+        "10,ctx,ok,0",
+        "11,read,ok,11223344",
+        "12,asid,ok,0",
+        "13,read,ok,11223344",
+        "14,asid,ok,0",
+        "15,read,refused,10",
+        "16,ctx,ok,0",
+        "17,read,ok,11223344",
+    ];
+    assert_eq!(found, expected);
+}
+
+/// Maps that agree: under another context than 0 a root is refused all the same, also the one that
+/// is held and one outside memory. 10 comes before 15 and 15 before 20.
+#[test]
+fn roots_under_another_context() {
+    let found = lines(
+        &two_maps(0x3832, 0x3832),
+        "asid,1,0,0\nroot,80,0,0\nroot,0,0,0\nroot,8000,0,0\nroot,40,0,0\nroot,ffffffff,0,0\n\
+         mode,1,0,0\nroot,80,0,0\nroot,0,0,0\nroot,40,0,0\nmode,0,0,0\nasid,7,0,0\n\
+         root,80,0,0\nasid,0,0,0\nroot,40,0,0\nroot,80,0,0\nread,1000,4,0\nroot,80,0,0\n\
+         mode,1,0,0\nroot,0,0,0\n",
+    );
+    let expected = [
+        "2,asid,ok,0",
+        "3,root,refused,14",
+        "4,root,refused,14",
+        "5,root,refused,14",
+        "6,root,refused,a",
+        "7,root,refused,a",
+        "8,mode,ok,0",
+        "9,root,refused,f",
+        "a,root,refused,f",
+        "b,root,refused,a",
+        "c,mode,ok,0",
+        "d,asid,ok,0",
+        "e,root,refused,14",
+        "f,asid,ok,0",
+        "10,root,refused,a",
+        "11,root,ok,0",
+        "12,read,ok,12345678",
+        "13,root,ok,0",
+        "14,mode,ok,0",
+        "15,root,refused,f",
+    ];
+    assert_eq!(found, expected);
+}
+
+/// Under another context every operation but `root` answers as it does under context 0, `asid` to
+/// any context among them.
+#[test]
+fn other_operations_under_another_context() {
+    let operations = [
+        ("read,1000,4,0", "ok,12345678"),
+        ("write,1000,4,55", "ok,0"),
+        ("fetch,1000,0,0", "ok,55"),
+        ("mode,1,0,0", "ok,0"),
+        ("mode,0,0,0", "ok,0"),
+        ("domain,55555554,0,0", "ok,0"),
+        ("read,1000,4,0", "fault,b"),
+        ("domain,55555555,0,0", "ok,0"),
+        ("all,0,0,0", "ok,0"),
+        ("addr,1000,0,0", "ok,0"),
+        ("ctx,0,0,0", "ok,0"),
+        ("addrctx,1000,5,0", "ok,0"),
+        ("read,1000,2,0", "ok,55"),
+        ("asid,5,0,0", "ok,0"),
+        ("asid,2,0,0", "ok,0"),
+        ("asid,0,0,0", "ok,0"),
+    ];
+    for context in [0, 1, 5, 7] {
+        let (mut list, mut expected) = (format!("asid,{context},0,0\n"), Vec::new());
+        for (number, (line, answer)) in (3..).zip(operations) {
+            let (name, _) = line.split_once(',').expect("a line has fields");
+            list.push_str(&format!("{line}\n"));
+            expected.push(format!("{number:x},{name},{answer}"));
+        }
+        let found = lines(&two_maps(0x3832, 0x4832), &list);
+        assert_eq!(found[1..], expected, "context {context}");
     }
 }
 

@@ -318,18 +318,22 @@ impl Edges {
 }
 
 /// Pairs of checks that often fail at once, in the order of the rules.
-const PAIRS: [(u32, u32); 11] = [
+const PAIRS: [(u32, u32); 15] = [
     (13, 14),
     (13, 7),
     (13, 17),
+    (13, 20),
     (14, 8),
     (14, 17),
+    (14, 20),
     (7, 8),
     (8, 9),
     (8, 15),
     (10, 15),
+    (10, 20),
     (11, 15),
     (17, 15),
+    (15, 20),
 ];
 
 /// What steps answered.
@@ -340,6 +344,9 @@ struct Answers {
     fetches: Tally<(Option<u32>, Answer)>,
     /// Of `domain`, in this mode.
     domains: Tally<(u32, Answer)>,
+    /// Of `root` in kernel mode: whether the context is 0, and whether it is another root than the
+    /// one held.
+    roots: Tally<(bool, bool, Answer)>,
     /// Two checks that both fail.
     pairs: Tally<(u32, u32)>,
 }
@@ -352,13 +359,15 @@ impl Answers {
             other => other,
         };
         self.all.add(kept);
-        let mode = machine.registers.mode;
+        let Registers { root, mode, .. } = machine.registers;
+        let in_0 = machine.registers.context == 0;
         match o.kind {
             Kind::Fetch => {
                 self.fetches.add((None, kept));
                 self.fetches.add((Some(mode), kept));
             }
             Kind::Domain => self.domains.add((mode, kept)),
+            Kind::Root if mode == 0 => self.roots.add((in_0, o.a != root, kept)),
             _ => (),
         }
         let failing = machine.conditions(o);
@@ -374,7 +383,7 @@ impl Answers {
             let faults = fault::OF_WALKS.into_iter().chain(fault::OF_ACCESSES);
             faults.map(Answer::Fault)
         };
-        let refusals = (7..=17).map(Answer::Refused);
+        let refusals = (7..=17).chain([20]).map(Answer::Refused);
         self.all.must_have("steps", faults().chain(refusals));
         self.pairs
             .must_have("pairs of checks failing at once", PAIRS);
@@ -389,6 +398,11 @@ impl Answers {
         };
         let fetched = each.chain(in_mode(0)).chain(in_mode(1));
         self.fetches.must_have("fetches, by mode", fetched);
+        self.registers_must_have();
+    }
+
+    /// What operations that set a register must have answered.
+    fn registers_must_have(&self) {
         let kernel = [Answer::Ok(0), Answer::Refused(14), Answer::Refused(17)];
         let user = [14, 15, 17].map(Answer::Refused);
         let set = kernel
@@ -396,6 +410,12 @@ impl Answers {
             .into_iter()
             .chain(user.map(|a| (1, a)));
         self.domains.must_have("domain, by mode", set);
+        let in_0 = [false, true].map(|another| (true, another, Answer::Ok(0)));
+        let elsewhere = [false, true].map(|another| (false, another, Answer::Refused(20)));
+        let no_root = [true, false].map(|in_0| (in_0, true, Answer::Refused(10)));
+        let roots = [in_0, elsewhere, no_root].concat();
+        self.roots
+            .must_have("root in kernel mode, in context 0, of another", roots);
     }
 }
 
@@ -549,6 +569,55 @@ fn an_access_goes_by_the_field_of_its_domain() {
     let by = |kind| each.map(|(section, mode)| (kind, section, mode));
     translated.must_have("translated, by section, mode", kinds.map(by).concat());
     stopped.must_have("stopped with field 1 alone, by section, mode", each);
+}
+
+/// A new root: mostly one that may be set, and often the one that is held.
+fn root(random: &mut Random, held: u32) -> u32 {
+    match random.below(8) {
+        0 => random.word(),
+        1 => random.word() & !0x7F,
+        2..=3 => held,
+        _ => *random.pick(&generate::ROOTS),
+    }
+}
+
+/// Under another context than 0, `root` is refused by 20 where it is set under context 0, and by
+/// the same number where it is refused there; it leaves everything. This holds of the code by
+/// itself.
+#[test]
+fn a_root_under_another_context() {
+    let mut seen = Tally::new();
+    for (case, mut random) in cases(2_000) {
+        let mut lent = lent(&mut random);
+        // Of one context or none there is no other.
+        let others = u64::from(lent.contexts()).saturating_sub(1);
+        if others == 0 {
+            continue;
+        }
+        let held = lent.registers.root;
+        let new = root(&mut random, held);
+        let operation = [Kind::Root as u32, new, random.word(), random.word()];
+        lent.registers.context = 0;
+        let (in_0, ..) = stepped(&lent, operation);
+        lent.registers.context = 1 + random.below(others) as u32;
+        let answer = match in_0 {
+            0 => number(Answer::Refused(20)),
+            refused => refused,
+        };
+        let (memory, track) = (lent.memory.clone(), lent.track.clone());
+        let found = stepped(&lent, operation);
+        if found != (answer, words(lent.registers), memory, track) {
+            let what = format!("{operation:x?}: {:#x}, in context 0 {in_0:#x}", found.0);
+            fail("root", case, &lent, &what);
+        }
+        seen.add((in_0 >> 32, in_0 as u32, new == held));
+    }
+    let set = [false, true].map(|same| (0, 0, same));
+    let refused = [13, 14, 10, 15].map(|n| (2, n, false));
+    seen.must_have(
+        "in context 0, the root held",
+        set.into_iter().chain(refused),
+    );
 }
 
 #[test]

@@ -1,6 +1,6 @@
 //! Images and lists on which maps change often: stores to descriptors, pages that turn from own to
-//! global and back, XN set and cleared, domains changed, opened and closed, roots and contexts
-//! switched, flushes of each kind.
+//! global and back, XN set and cleared, domains changed, opened and closed, contexts switched,
+//! roots switched under context 0 and tried under others, flushes of each kind.
 use crate::machine::{Kind, Operation, CLIENTS, KINDS};
 use crate::random::Random;
 
@@ -385,13 +385,30 @@ fn opened_or_closed(random: &mut Random) -> Vec<Operation> {
     list
 }
 
-/// At least this many operations, with pages that turn and domains opened and closed among them.
+/// A switch through context 0: a root is set there, and mostly a context follows. Now and then the
+/// root is tried under the context that is there.
+fn switch(random: &mut Random, contexts: u32) -> Vec<Operation> {
+    let mut list = Vec::new();
+    if !random.one_in(5) {
+        list.push(op(Kind::Asid, 0, 0, 0));
+    }
+    list.push(op(Kind::Root, *random.pick(&ROOTS), 0, 0));
+    if !random.one_in(3) {
+        let context = random.below(u64::from(contexts)) as u32;
+        list.push(op(Kind::Asid, context, 0, 0));
+    }
+    list
+}
+
+/// At least this many operations, with pages that turn, domains opened and closed, and roots
+/// switched among them.
 pub fn operations(random: &mut Random, contexts: u32, memory: u32, least: u64) -> Vec<Operation> {
     let mut list = Vec::new();
     while (list.len() as u64) < least {
         match random.below(24) {
             0..=2 => list.extend(turn(random, contexts)),
             3 => list.extend(opened_or_closed(random)),
+            4 => list.extend(switch(random, contexts)),
             _ => list.push(operation(random, contexts, memory)),
         }
     }

@@ -371,6 +371,7 @@ impl Machine {
             (12, kind == Kind::Mode && a > 1),
             (17, kind == Kind::Domain && !reserved(a).is_empty()),
             (15, r.mode == 1 && !access && kind != Kind::Mode),
+            (20, kind == Kind::Root && r.context != 0),
         ]
         .into_iter()
         .filter_map(|(number, holds)| holds.then_some(number))

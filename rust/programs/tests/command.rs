@@ -102,6 +102,22 @@ fn a_domain_register_with_a_field_of_2_is_explained() {
     );
 }
 
+/// A root under another context than 0 is refused, though the map stays the same, and explained;
+/// through context 0 it is not.
+#[test]
+fn a_root_under_another_context_is_explained() {
+    let (status, report, error) = of_list(&with_names("asid,1,0,0\nroot,0,0,0\n"));
+    let expected = format!("{HEADER}2,asid,ok,0\n3,root,refused,14\n");
+    assert_eq!((status, report), (3, expected));
+    assert!(
+        error.contains("list:3: root,0,0,0: refused: 20, "),
+        "{error}"
+    );
+    let through_0 = "asid,1,0,0\nasid,0,0,0\nroot,0,0,0\nasid,1,0,0\n";
+    let (status, _, error) = of_list(&with_names(through_0));
+    assert_eq!(status, 0, "{error}");
+}
+
 #[test]
 fn common_mistakes_are_named() {
     for (list, says) in [

@@ -115,6 +115,26 @@ fn domains() {
     assert_eq!(lines(&format!("{NAMES}{list}")), report);
 }
 
+/// Under context 1 no root is set: neither the one held nor that of a map without pages, 0x80;
+/// first come the checks for its value and for user mode. Through context 0 the pages of contexts 0
+/// and 1 turn stale, and are trusted again when the root is back; context 2, which saw none, has
+/// faults.
+#[test]
+fn roots_and_contexts() {
+    let list = "asid,1,0,0\nroot,80,0,0\nread,1000,4,0\nroot,0,0,0\nroot,1,0,0\nmode,1,0,0\n\
+                root,80,0,0\nroot,40,0,0\nmode,0,0,0\nasid,0,0,0\nroot,80,0,0\n\
+                read,1000,4,0\nasid,1,0,0\nread,1000,4,0\nroot,0,0,0\nasid,2,0,0\n\
+                read,1000,4,0\nasid,0,0,0\nroot,0,0,0\nread,1000,4,0\nasid,1,0,0\n\
+                read,1000,4,0\nasid,2,0,0\nread,1000,4,0\n";
+    let report = "2,asid,ok,0\n3,root,refused,14\n4,read,ok,12345678\n5,root,refused,14\n\
+                  6,root,refused,a\n7,mode,ok,0\n8,root,refused,f\n9,root,refused,a\n\
+                  a,mode,ok,0\nb,asid,ok,0\nc,root,ok,0\nd,read,refused,10\ne,asid,ok,0\n\
+                  f,read,refused,10\n10,root,refused,14\n11,asid,ok,0\n12,read,fault,5\n\
+                  13,asid,ok,0\n14,root,ok,0\n15,read,ok,12345678\n16,asid,ok,0\n\
+                  17,read,ok,12345678\n18,asid,ok,0\n19,read,ok,12345678\n";
+    assert_eq!(lines(&format!("{NAMES}{list}")), report);
+}
+
 #[test]
 fn the_empty_list_and_names_alone() {
     assert_eq!(lines(""), "1,-,refused,2\n");

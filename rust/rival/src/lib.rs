@@ -203,7 +203,10 @@ impl Machine {
         if self.mode == 1 && !access && kind != 4 {
             return Some(15);
         }
-        None
+        match (kind, self.context) {
+            (2, 1..) => Some(20),
+            _ => None,
+        }
     }
 
     /// The domain or permission fault of an access through an entry, if it has one.
