@@ -32,7 +32,7 @@ enum {
 enum {
     WUZHAMBEN_READ,    /* a address, b size 1, 2 or 4 */
     WUZHAMBEN_WRITE,   /* a address, b size, c value */
-    WUZHAMBEN_ROOT,    /* a the new root */
+    WUZHAMBEN_ROOT,    /* a the new root; refused (20) while the context is not 0 */
     WUZHAMBEN_ASID,    /* a the new context */
     WUZHAMBEN_MODE,    /* a the new mode, 0 kernel or 1 user */
     WUZHAMBEN_ALL,     /* flushes everything */
