@@ -21,7 +21,8 @@ use Rattle.model.proofs.Entries.{same-true}
 use Rattle.model.proofs.Calls.{plain, words, track-length}
 use Rattle.model.proofs.Instance.{stateOf}
 use Rattle.model.proofs.Kept.{callAt, not-given}
-use Rattle.cases.proofs.Noted.{Noted, left-alone, noted-at-end}
+use Rattle.runs.specs.Noted.{Noted}
+use Rattle.runs.proofs.Noted.{left-alone, noted-at-end}
 
 -- ── The track, word by word ──
 

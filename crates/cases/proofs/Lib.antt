@@ -8,7 +8,6 @@ pub mod FetchCases
 pub mod FetchWitness
 pub mod GlobalCases
 pub mod GlobalWitness
-pub mod Noted
 pub mod OldEntry
 pub mod PaperCases
 pub mod RootChanges

@@ -37,7 +37,7 @@ fn with_context(r: Registers, a: u32) -> Registers
     }
 }
 
-fn with_mode(r: Registers, a: u32) -> Registers
+pub fn with_mode(r: Registers, a: u32) -> Registers
     ensures { λ x. ⌜ x ≡ withMode r a ⌝ }
 {
     Registers {
@@ -48,7 +48,7 @@ fn with_mode(r: Registers, a: u32) -> Registers
     }
 }
 
-fn with_domains(r: Registers, a: u32) -> Registers
+pub fn with_domains(r: Registers, a: u32) -> Registers
     ensures { λ x. ⌜ x ≡ withDomains r a ⌝ }
 {
     Registers {
@@ -60,7 +60,7 @@ fn with_domains(r: Registers, a: u32) -> Registers
 }
 
 // An operation that has passed the checks.
-fn carry_out(kind: Kind, o: Operation, r: Registers, m: &mut [u8], t: &mut [u32]) -> Returned
+pub fn carry_out(kind: Kind, o: Operation, r: Registers, m: &mut [u8], t: &mut [u32]) -> Returned
     ensures { λ y. ⌜ Gives (operate kind o r (now (m .entry)) (now (t .entry))) y (now (m .exit)) (now (t .exit)) ⌝ }
 {
     match kind {

@@ -31,7 +31,7 @@ const ROW: usize = 1024;
 const MIB: usize = 256;
 
 // A word of a row of this kind after noting what the walk of its page found.
-fn add_outcome(global: u32, w: u32, o: Outcome) -> u32
+pub fn add_outcome(global: u32, w: u32, o: Outcome) -> u32
     ensures { λ r. ⌜ r ≡ addOutcome global w o ⌝ }
 {
     match o {

@@ -1,6 +1,6 @@
 -- Laws of the report around its lines: the list, the start, the header, and a call. Assumes nothing.
 use Prim.Native.Nat.{ℕ, _+_, _≤_, _<_}
-use mathlib.Core.Path.{_≡_, refl, ap, ap₂, sym, _∙_, subst}
+use mathlib.Core.Path.{_≡_, refl, ap, ap₂, sym, _∙_, subst, subst₂}
 use mathlib.Core.Bool.{Bool, true, false, cond}
 use mathlib.Core.List.{List, [], _∷_, _++_}
 use native.Mathlib.Omega.{arith}
@@ -19,8 +19,12 @@ use Rattle.model.specs.declared.Refusal.{Refusal}
 use Rattle.model.specs.declared.Registers.{Registers}
 use Rattle.model.specs.declared.Check.{Check}
 use Rattle.model.specs.step.Checks.{startChecks, firstFailing}
-use Rattle.model.specs.step.Machine.{After, started}
-use Rattle.model.specs.reference.Runs.{last, checkerRun}
+use Rattle.model.specs.declared.Returned.{Returned}
+use Rattle.model.specs.step.Machine.{After, Gives, started}
+use Rattle.model.specs.reference.Rules.{State}
+use Rattle.model.specs.reference.Runs.{last, checkerRun, isRefused}
+use Rattle.runs.specs.Noted.{Noted}
+use Rattle.runs.proofs.Noted.{noted-start}
 use Rattle.names.specs.Names.{newline}
 use Rattle.listing.specs.declared.Reason.{Reason}
 use Rattle.listing.specs.declared.Reason.the-variants.{TooLong, Names}
@@ -89,6 +93,21 @@ carried-from x r m t l e f g =
     ap (λ (z : Registers). replayed 2 (record { answer = Done 0; registers = z; memory = m; track = t }) l) e
     ∙ ap₂ (λ (y z : List ℕ). replayed 2 (record { answer = Done 0; registers = x .registers; memory = y; track = z }) l) f g
     ∙ answer-apart (Done 0) (x .answer) (x .registers) (x .memory) (x .track) 2 (l .operations) (l .ending)
+
+-- what a start that is not refused returns and leaves: the track is noted
+pub noted-from : (m t : List ℕ) (x : Returned) (l u : List ℕ) → Gives (started m t 0) x l u → isRefused (shown (x .answer)) ≡ false →
+    Noted (record { memory = l; registers = x .registers }) u
+noted-from m t x l u g q =
+    subst₂ (λ (s : State) (v : List ℕ). Noted s v) (λ i. record { memory = sym (g .memory) i; registers = sym (g .registers) i }) (sym (g .track))
+    (noted-start m t 0 (ap (λ (a : Answer). isRefused (shown a)) (sym (g .answer)) ∙ q))
+
+pub done-kept : (a : Answer) (v : ℕ) → a ≡ Done v → isRefused (shown a) ≡ false
+unfolding isRefused
+done-kept a v e = ap (λ (z : Answer). isRefused (shown z)) e
+
+pub faulted-kept : (a : Answer) (f : Fault) → a ≡ Faulted f → isRefused (shown a) ≡ false
+unfolding isRefused
+faulted-kept a f e = ap (λ (z : Answer). isRefused (shown z)) e
 
 module _ (m t l : List ℕ) where
   pub body-refused : (n : Refusal) → started m t 0 .answer ≡ Refused n → bodyOf m t l ≡ ended (reportLine 0 startName (refused (refusalNumber n))) (started m t 0)

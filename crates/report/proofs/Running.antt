@@ -13,9 +13,14 @@ use Rattle.model.specs.declared.Answer.{Answer}
 use Rattle.model.specs.declared.Operation.{Operation}
 use Rattle.model.specs.declared.Registers.{Registers}
 use Rattle.model.specs.declared.Returned.{Returned}
-use Rattle.model.specs.step.Machine.{After, Gives, stepped}
+use Rattle.model.specs.step.Machine.{After, Gives}
 use Rattle.model.specs.reference.Runs.{next}
 use Rattle.model.specs.Invisible.{checker}
+use Rattle.model.proofs.Instance.{stateOf}
+use Rattle.runs.specs.Noted.{Noted}
+use Rattle.runs.specs.Step.{runStepped}
+use Rattle.runs.proofs.Noted.{noted-next}
+use Rattle.runs.proofs.SameLaws.{step-same}
 use Rattle.names.specs.Names.{newline, name}
 use Rattle.listing.specs.declared.Line.the-variants.{Op, Refused}
 use Rattle.listing.specs.declared.Reason.{Reason}
@@ -36,6 +41,7 @@ pub record Running (whole : Left) (d : List ℕ) (at : ℕ) (r : Registers) (m t
   pub is-registers : x .registers ≡ r
   pub is-memory : x .memory ≡ m
   pub is-track : x .track ≡ t
+  pub is-noted : Noted (stateOf x) (x .track)
   pub enough : length left ≤ turns
   pub lines : line + length left ≤ 65538
   pub room : at + length text + (4 * length left + 64) ≤ length d
@@ -48,9 +54,9 @@ pub record Running (whole : Left) (d : List ℕ) (at : ℕ) (r : Registers) (m t
 together : (s t : List ℕ) (r : Left) → behind s (behind t r) ≡ behind (s ++ t) r
 together s t r = ap (λ (u : List ℕ). record { text = u; memory = r .memory; track = r .track }) (sym (append-assoc s t (r .text)))
 
-pub running-start : (x : After) (l d : List ℕ) (at : ℕ) → length l ≤ 65536 → at + (4 * length l + 64) ≤ length d →
+pub running-start : (x : After) (l d : List ℕ) (at : ℕ) → length l ≤ 65536 → at + (4 * length l + 64) ≤ length d → Noted (stateOf x) (x .track) →
     Running (replayed 2 x (readLines (length l) 2 l)) d at (x .registers) (x .memory) (x .track) d l at 2
-running-start x l d at h room =
+running-start x l d at h room n =
     record {
       turns = length l;
       x = x;
@@ -58,6 +64,7 @@ running-start x l d at h room =
       is-registers = refl;
       is-memory = refl;
       is-track = refl;
+      is-noted = n;
       enough = omega arith;
       lines = omega arith;
       room = omega arith;
@@ -77,14 +84,15 @@ module _ {whole : Left} {d : List ℕ} {at : ℕ} {r : Registers} {m t out left 
         f .1 ∙ ap₂ (λ (o : List ℕ) (q : ℕ). over o q s) (w .bytes) (w .is-place) ∙ over-over d at (w .text) (omega (arith, w .room)) s,
       )
 
-  -- the step from what is held is the step of the definition
-  same-step : (o : Operation) → next checker o (w .x) ≡ stepped o r m t
+  -- the step for runs from what is held is the step of the definition
+  same-step : (o : Operation) → next checker o (w .x) ≡ runStepped o r m t
   same-step o =
-      ap (λ (q : Registers). stepped o q (w .x .memory) (w .x .track)) (w .is-registers)
-      ∙ ap (λ (q : List ℕ). stepped o r q (w .x .track)) (w .is-memory)
-      ∙ ap (λ (q : List ℕ). stepped o r m q) (w .is-track)
+      sym (step-same o (w .x .registers) (w .x .memory) (w .x .track) (w .is-noted))
+      ∙ ap (λ (q : Registers). runStepped o q (w .x .memory) (w .x .track)) (w .is-registers)
+      ∙ ap (λ (q : List ℕ). runStepped o r q (w .x .track)) (w .is-memory)
+      ∙ ap (λ (q : List ℕ). runStepped o r m q) (w .is-track)
 
-  pub running-more : (o : Operation) (y : Returned) (m′ t′ out′ : List ℕ) (p : ℕ) → 0 < length left → lineOf left ≡ Op o → Gives (stepped o r m t) y m′ t′ →
+  pub running-more : (o : Operation) (y : Returned) (m′ t′ out′ : List ℕ) (p : ℕ) → 0 < length left → lineOf left ≡ Op o → Gives (runStepped o r m t) y m′ t′ →
       (p ≡ placeAfter lineRoom out place (reportLine line (name (o .kind)) (shown (y .answer)))) × (out′ ≡ wrote lineRoom out place (reportLine line (name (o .kind)) (shown (y .answer)))) →
       Running whole d at (y .registers) m′ t′ out′ (past newline left) p (line + 1)
   running-more o y m′ t′ out′ p h e g q = go (w .turns) refl
@@ -120,6 +128,7 @@ module _ {whole : Left} {d : List ℕ} {at : ℕ} {r : Registers} {m t out left 
             is-registers = ap (λ (k : After). k .registers) (same-step o) ∙ sym (g .registers);
             is-memory = ap (λ (k : After). k .memory) (same-step o) ∙ sym (g .memory);
             is-track = ap (λ (k : After). k .track) (same-step o) ∙ sym (g .track);
+            is-noted = noted-next (stateOf (w .x)) (w .x .track) o (w .is-noted);
             enough = omega (arith, w .enough, less);
             lines = omega (arith, w .lines, less);
             room = omega (arith, w .room, more, most, less);

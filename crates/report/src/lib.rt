@@ -4,6 +4,7 @@ ghost use Prim.Native.Nat.{_+_, _*_, _≤_};
 ghost use lib.ListN.{length};
 ghost use Rattle.model.specs.declared.Answer.the-variants.{Done};
 ghost use Rattle.model.specs.step.Machine.{After};
+ghost use Rattle.runs.specs.Noted.{Noted};
 ghost use Rattle.listing.specs.Whole.{readList, readLines};
 ghost use Rattle.report.specs.Report.{memoryLength, looksAtList, replayed, bodyOf, reportOf, Ran, called, GivesReport};
 use listing::Line;
@@ -40,10 +41,11 @@ pub fn looks_at_list(n: usize) -> bool
     }
 }
 
-// Carries out the lines of a list, the first of which is line 2, and puts their lines into the report.
+// Carries out the lines of a list, the first of which is line 2, on a track that is noted, and puts their lines into the report.
 fn lines(r: Registers, m: &mut [u8], t: &mut [u32], list: &[u8], out: &mut [u8], at: usize) -> usize
     requires { ⌜ length (now list) ≤ 65536 ⌝ }
     requires { ⌜ at + (4 * length (now list) + 64) ≤ length (now out) ⌝ }
+    requires { ⌜ Noted (record { memory = now m; registers = r }) (now t) ⌝ }
     ensures { λ p. ⌜ Ran (replayed 2 (record { answer = Done 0; registers = r; memory = now (m .entry); track = now (t .entry) }) (readLines (length (now (list .entry))) 2 (now (list .entry)))) (now (out .entry)) at p (now (m .exit)) (now (t .exit)) (now (out .exit)) ⌝ }
 {
     let mut regs = r;
@@ -53,7 +55,7 @@ fn lines(r: Registers, m: &mut [u8], t: &mut [u32], list: &[u8], out: &mut [u8],
     while 0 < left.len() {
         match listing::read_line(left) {
             Line::Op(o) => {
-                let y = machine::step(o, regs, m, t);
+                let y = run_step::step(o, regs, m, t);
                 regs = y.registers;
                 let answer = y.answer;
                 let kind = o.kind;
@@ -80,6 +82,7 @@ fn read_list(
     at: usize,
 ) -> usize
     requires { ⌜ at + 262208 ≤ length (now out) ⌝ }
+    requires { ⌜ Noted (record { memory = now m; registers = r }) (now t) ⌝ }
     ensures { λ p. ⌜ Ran (replayed 2 (record { answer = Done 0; registers = r; memory = now (m .entry); track = now (t .entry) }) (readList (now (list .entry)))) (now (out .entry)) at p (now (m .exit)) (now (t .exit)) (now (out .exit)) ⌝ }
 {
     if listing::too_long(list) {

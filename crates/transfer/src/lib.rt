@@ -14,7 +14,7 @@ use model::Returned;
 use model::Size;
 
 // The number that loading found.
-fn value_of(x: Loaded) -> u32
+pub fn value_of(x: Loaded) -> u32
     ensures { λ r. ⌜ r ≡ valueOf x ⌝ }
 {
     match x {
@@ -46,7 +46,7 @@ pub fn carry_flushed(answer: Answer, r: Registers, m: &[u8], t: &mut [u32]) -> R
 }
 
 // Stores, then notes with the memory that is left.
-fn store_and_note(
+pub fn store_and_note(
     at: usize,
     size: Size,
     v: u32,

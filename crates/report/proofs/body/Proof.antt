@@ -9,7 +9,7 @@ use Rattle.model.specs.step.Machine.{started}
 use Rattle.listing.specs.Whole.{readList}
 use Rattle.report_line.specs.Text.{startName, reportLine}
 use Rattle.report.specs.Report.{bodyOf}
-use Rattle.report.proofs.ReportLaws.{ran-same, ran-ended, carried-from, body-refused, body-done, body-faulted}
+use Rattle.report.proofs.ReportLaws.{noted-from, done-kept, faulted-kept, ran-same, ran-ended, carried-from, body-refused, body-done, body-faulted}
 use borrow.Author.Needs.{needs}
 use Rattle.report.proofs.body.Statement.{statement}
 use Rattle.report.proofs.body.Tie as tie
@@ -36,13 +36,21 @@ enum-told : tie.Need-enum-told
 enum-told c = search needs
 
 read-list-requires : tie.Need-read-list-requires
-read-list-requires c κs = search needs
+read-list-requires c κs =
+    let e = c .before .before .before in
+    let g = e .before .before .before .before .before in
+    let a = g .before .before .before .before .before .before .before in
+    (omega (arith, a .pre), noted-from (now (a .args .m)) (now (a .args .t)) (g .start .result) _ _ (g .start .ensures) (done-kept _ _ (e .enum-told .given .1)))
 
 enum-told-2 : tie.Need-enum-told-2
 enum-told-2 c = search needs
 
 read-list-requires-2 : tie.Need-read-list-requires-2
-read-list-requires-2 c κs = search needs
+read-list-requires-2 c κs =
+    let e = c .before .before .before in
+    let g = e .before .before .before .before .before in
+    let a = g .before .before .before .before .before .before .before in
+    (omega (arith, a .pre), noted-from (now (a .args .m)) (now (a .args .t)) (g .start .result) _ _ (g .start .ensures) (faulted-kept _ _ (e .enum-told2 .given .1)))
 
 same-length : tie.Need-same-length
 same-length c = search needs

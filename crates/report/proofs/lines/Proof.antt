@@ -19,7 +19,7 @@ use Rattle.report.proofs.lines.Lts as lts
 use Rattle.listing.proofs.list_number.Reads as list-number-reads
 use Rattle.listing.proofs.read_line.Reads as read-line-reads
 use Rattle.listing.proofs.rest.Reads as rest-reads
-use Rattle.machine.proofs.step.Reads as step-reads
+use Rattle.run_step.proofs.step.Reads as step-reads
 use Rattle.report_line.proofs.put_refusal.Reads as put-refusal-reads
 use Rattle.report_line.proofs.put_answer.Reads as put-answer-reads
 
@@ -34,7 +34,7 @@ abbrev μ-loop : tie.MeasureT-loop
 loop-holds : tie.Need-loop-holds Inv-loop μ-loop
 loop-holds c =
     let a = c .before .before .before .before in
-    (running-start _ (now (a .args .list)) (now (a .args .out)) (a .args .at) (a .pre .0) (a .pre .1), (refl, refl))
+    (running-start _ (now (a .args .list)) (now (a .args .out)) (a .args .at) (a .pre .0) (a .pre .1 .0) (a .pre .1 .1), (refl, refl))
 
 read-line-requires : tie.Need-read-line-requires Inv-loop μ-loop
 read-line-requires c κs = search needs

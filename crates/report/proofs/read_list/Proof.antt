@@ -39,7 +39,7 @@ same-length c = search needs
 
 returns : tie.Need-returns
 returns c = let w = c .before .before in let n = w .before in let i = n .before .before in let h = i .before in let a = h .before .before .before .before .before in
-    ran-stopped _ (now (a .args .list)) TooLong _ (read-long (now (a .args .list)) (sym (h .too-long .ensures) ∙ i .if1 .taken)) (omega (arith, a .pre))
+    ran-stopped _ (now (a .args .list)) TooLong _ (read-long (now (a .args .list)) (sym (h .too-long .ensures) ∙ i .if1 .taken)) (omega (arith, a .pre .0))
     (n .list-number .ensures .0) (w .put-refusal .ensures)
 
 has-names-requires : tie.Need-has-names-requires
@@ -55,7 +55,7 @@ lines-requires c κs =
     let a = h .before .before .before .before .before in
     let l = now (a .args .list) in
     let b = not-long l (sym (h .too-long .ensures) ∙ c .before .before .before .before .before .before .if1 .left) in
-    (omega (arith, ap length (f .rest .ensures), past-length newline l, b), omega (arith, ap length (f .rest .ensures), past-length newline l, b, a .pre))
+    (omega (arith, ap length (f .rest .ensures), past-length newline l, b), (omega (arith, ap length (f .rest .ensures), past-length newline l, b, a .pre .0), a .pre .1))
 
 same-length-2 : tie.Need-same-length-2
 same-length-2 c = search needs
@@ -91,7 +91,7 @@ same-length-5 c = search needs
 returns-3 : tie.Need-returns-3
 returns-3 c = let w = c .before .before in let n = w .before in let i = n .before .before in let j = i .before .before in let h = j .before in let a = h .before .before .before .before .before in
     ran-stopped _ (now (a .args .list)) Names _
-    (read-none (now (a .args .list)) (sym (h .too-long .ensures) ∙ j .if1 .left) (sym (i .before .has-names .ensures) ∙ i .if2 .left)) (omega (arith, a .pre))
+    (read-none (now (a .args .list)) (sym (h .too-long .ensures) ∙ j .if1 .left) (sym (i .before .has-names .ensures) ∙ i .if2 .left)) (omega (arith, a .pre .0))
     (n .list-number2 .ensures .0) (w .put-refusal2 .ensures)
 
 pub read-list-spec : {M : Type 1} → statement M

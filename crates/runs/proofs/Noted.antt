@@ -5,7 +5,7 @@ use mathlib.Core.Bool.{Bool, true, false, cond, true≢false}
 use mathlib.Core.List.{List, [], _∷_}
 use lib.ListN.{length}
 use Rattle.model.specs.Limits.{pageSize, rowSize}
-use Rattle.model.specs.Numbers.{Result, ok, fault, refused, shown}
+use Rattle.model.specs.Numbers.{Result, ok, fault, refused, shown, refusalNumber}
 use Rattle.model.specs.reference.Rules.{Translation, found, failed, bits, State, fresh, outcome, carriedOut, Scope, scopeOf, sameScope, flushes, Kept, empty, one, several, wordOf, entryOf, kept, same, addTo, noted, notedIn, wordAfter, contexts, trackWord, hasRow}
 use Rattle.model.specs.reference.Runs.{last, next, checkerRun, isRefused}
 use Rattle.model.specs.step.Machine.{After, started}
@@ -13,8 +13,9 @@ use Rattle.model.specs.Demands.{after}
 use Rattle.model.specs.Invisible.{Session, begun, Accepted, atEnd, checker}
 use Rattle.model.specs.declared.Operation.{Operation}
 use Rattle.model.specs.declared.Entry.{Entry}
+use Rattle.runs.specs.Noted.{Noted}
 use Rattle.model.proofs.Entries.{Fits, same-self}
-use Rattle.model.proofs.Calls.{plain, words, unchanged, track-length, start-words, start-track-length, start-lengths}
+use Rattle.model.proofs.Calls.{plain, words, unchanged, track-length, call-passes, Begun, back, done, begun as begun-start, start-exactly, start-words, start-track-length, start-lengths}
 use Rattle.model.proofs.Instance.{stateOf}
 use Rattle.model.proofs.Kept.{callAt, not-given, start-not-given, same-has, begins, kept-word, same-scope, suits-own, outcome-range}
 
@@ -53,17 +54,30 @@ again s u p w = noted-twice u (s .registers .context) (outcome s (p * pageSize))
 
 -- ── Throughout a run ──
 
--- A track of whole rows that to note again would not change.
-pub record Noted (s : State) (t : List ℕ) : Type 0 where
-  pub whole : length t ≡ rowSize * (contexts t + 1)
-  pub stays : (u : Scope) (p : ℕ) → hasRow t u ≡ true → p < rowSize → notedIn s u p (trackWord t u p) ≡ trackWord t u p
-
 same-whole : (t v : List ℕ) → length v ≡ length t → length t ≡ rowSize * (contexts t + 1) → length v ≡ rowSize * (contexts v + 1)
 unfolding contexts
 same-whole t v e w = e ∙ w ∙ ap (λ n. rowSize * (n / rowSize - 1 + 1)) (sym e)
 
-noted-start : (m t : List ℕ) (root : ℕ) → isRefused (shown (started m t root .answer)) ≡ false → Noted (stateOf (started m t root)) (started m t root .track)
+pub same-contexts : (t v : List ℕ) → length v ≡ length t → contexts t ≡ contexts v
+unfolding contexts
+same-contexts t v e = ap (λ n. n / rowSize - 1) (sym e)
+
+current-start : (m t : List ℕ) (root : ℕ) → isRefused (shown (started m t root .answer)) ≡ false → started m t root .registers .context < contexts (started m t root .track)
+current-start m t root q = go (begun-start m t root)
+  where
+    accepted : stateOf (started m t root) ≡ fresh m root
+    accepted = begins m t root q
+
+    context-0 : started m t root .registers .context ≡ 0
+    context-0 = ap (λ (s : State). s .registers .context) accepted ∙ (unfold fresh in refl)
+
+    go : Begun (started m t root) m t root → started m t root .registers .context < contexts (started m t root .track)
+    go (back n e) = absurd (start-not-given m t root q (refusalNumber n) (start-exactly m t root (refusalNumber n) .0 (ap (λ (z : After). shown (z .answer)) e)))
+    go (done a k e) = rw (context-0, sym (same-contexts t (started m t root .track) (start-track-length m t root))) k
+
+pub noted-start : (m t : List ℕ) (root : ℕ) → isRefused (shown (started m t root .answer)) ≡ false → Noted (stateOf (started m t root)) (started m t root .track)
 noted-start m t root q = record {
+  current = current-start m t root q;
   whole = same-whole t (started m t root .track) (start-track-length m t root) (start-lengths m t root (start-not-given m t root q));
   stays = λ u p h k.
       let word = start-words m t root (start-not-given m t root q) u p (sym (same-has (started m t root .track) t (start-track-length m t root) u) ∙ h) k in
@@ -79,6 +93,7 @@ noted-carried s t o q n =
     let left = ap (λ (y : Result × State). y .1) (plain x (not-given x q)) in
     record {
       whole = same-whole t (after x .track) (track-length x) (n .whole);
+      current = subst (λ k. after x .registers .context < k) (same-contexts t (after x .track) (track-length x)) (call-passes x (not-given x q) .left);
       stays = λ u p h k.
           let word = words x (not-given x q) u p (sym (same-has (after x .track) t (track-length x) u) ∙ h) k in
           ap₂ (λ (z : State) (w : ℕ). notedIn z u p w) left word
@@ -100,7 +115,7 @@ left-alone s t o q =
     let l = unchanged (callAt s t o) (r .0) (r .1) in
     (λ i. record { memory = l .memory i; registers = l .registers i }, l .track)
 
-noted-next : (s : State) (t : List ℕ) (o : Operation) → Noted s t → Noted (stateOf (after (callAt s t o))) (after (callAt s t o) .track)
+pub noted-next : (s : State) (t : List ℕ) (o : Operation) → Noted s t → Noted (stateOf (after (callAt s t o))) (after (callAt s t o) .track)
 noted-next s t o n = go (isRefused (shown (after (callAt s t o) .answer))) refl
   where
     go : (b : Bool) → isRefused (shown (after (callAt s t o) .answer)) ≡ b → Noted (stateOf (after (callAt s t o))) (after (callAt s t o) .track)

@@ -1,0 +1,59 @@
+// Whether a store is quiet: it touches no byte that a present walk uses. The test goes over the level-one words of the window alone.
+ghost use mathlib.Core.Path.{_≡_};
+ghost use Rattle.model.specs.step.Memory.{bytesOf};
+ghost use Rattle.runs.specs.Quiet.{overlap, touchesTable, touchesMib, quiet};
+use descriptor::first_of;
+use memory::bytes;
+use memory::load;
+use model::FirstLevel;
+use model::Loaded;
+use model::Size;
+
+// Whether the n bytes from a on and the k bytes from b on have one in common.
+fn overlaps(a: usize, n: usize, b: usize, k: usize) -> bool
+    ensures { λ r. ⌜ r ≡ overlap a n b k ⌝ }
+{
+    if a < b {
+        return b - a < n;
+    }
+    a - b < k
+}
+
+// Whether the n bytes from `at` on touch the table that a level-one word points to, if it points to one.
+fn touches_table(x: FirstLevel, at: usize, n: usize) -> bool
+    ensures { λ r. ⌜ r ≡ touchesTable x at n ⌝ }
+{
+    match x {
+        FirstLevel::Failing(_) => false,
+        FirstLevel::Section(_) => false,
+        FirstLevel::Table(table) => overlaps(at, n, table.base as usize, 1024), // tableSize
+    }
+}
+
+// Whether they touch what the walks of a MiB use, whose level-one word stands at `first`.
+fn touches_mib(m: &[u8], first: usize, at: usize, n: usize) -> bool
+    ensures { λ r. ⌜ r ≡ touchesMib (now (m .entry)) first at n ⌝ }
+{
+    if overlaps(at, n, first, 4) { // wordSize
+        return true;
+    }
+    match load(m, first, Size::Four) {
+        Loaded::Value(w) => touches_table(first_of(w, 0), at, n),
+        Loaded::Outside => false,
+    }
+}
+
+// Whether a store of this size at `at` is quiet.
+pub fn is_quiet(m: &[u8], root: u32, at: usize, size: Size) -> bool
+    ensures { λ r. ⌜ r ≡ quiet (now (m .entry)) root at (bytesOf size) ⌝ }
+{
+    let n = bytes(size);
+    let mut i = 4; // windowWords
+    while 0 < i {
+        i -= 1;
+        if touches_mib(m, root as usize + 4 * i, at, n) {
+            return false;
+        }
+    }
+    true
+}

@@ -1,0 +1,6 @@
+-- The theorems of the step for runs, and cases.
+pub mod UsedLaws
+pub mod Stores
+pub mod Noted
+pub mod SameLaws
+pub mod SameRuns

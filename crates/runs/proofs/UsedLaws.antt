@@ -1,0 +1,203 @@
+-- The test says that a store is quiet exactly when it touches no byte that a present walk uses.
+use Prim.Native.Nat.{ℕ, zero, suc, _+_, _*_, _-_, _/_, _%_, _^_, _≤_, _<_}
+use mathlib.Core.Path.{_≡_, refl, sym, ap, _∙_, subst}
+use mathlib.Core.Logic.{_↔_}
+use mathlib.Core.Bool.{Bool, true, false, cond, not, true≢false}
+use mathlib.Core.List.{List}
+use native.Mathlib.Omega.{arith}
+use lib.Dec.{eqb, ltb}
+use lib.ListN.{length}
+use borrow.Author.Tests.{ltb-true, ltb-false, eqb-true, eqb-false, eq-eqb, lt-ltb, le-ltb, not-true}
+use Rattle.model.specs.reference.Rules.{inMemory, value, bits}
+use Rattle.model.specs.step.Memory.{within, numberAt, loadAt}
+use Rattle.model.specs.step.Walk.{kindOf, superBit, pointerOf, sectionEntry, descriptorAt, firstOf, firstFrom}
+use Rattle.model.specs.declared.Fault.the-variants.{FirstUnmapped}
+use Rattle.model.specs.declared.Size.the-variants.{Four}
+use Rattle.model.specs.declared.Loaded.the-variants.{Value, Outside}
+use Rattle.model.specs.declared.FirstLevel.the-variants.{Failing, Table, Section}
+use Rattle.model.proofs.BoolLaws.{push}
+use Rattle.model.proofs.Memory.{within-same, number-same}
+use Rattle.runs.specs.Used.{windowWords, wordSize, tableSize, firstPlace, tableBase, Among, Serves, firstWord, ofTable, Used, Untouched}
+use Rattle.runs.specs.Quiet.{overlap, touchesTable, touchesMib, touches, quiet}
+
+-- ── Two ranges of bytes ──
+
+-- a byte of both
+pub record Shared (a n b k : ℕ) : Type 0 where
+  pub byte : ℕ
+  pub one : Among a n byte
+  pub other : Among b k byte
+
+overlap-true : (a n b k : ℕ) → 0 < n → 0 < k → overlap a n b k ≡ true → Shared a n b k
+unfolding overlap
+overlap-true a n b k hn hk h = go (ltb a b) refl h
+  where
+    go : (x : Bool) → ltb a b ≡ x → cond x (ltb (b - a) n) (ltb (a - b) k) ≡ true → Shared a n b k
+    go true e q =
+        let lt = ltb-true a b e in
+        let lt′ = ltb-true (b - a) n q in
+        record { byte = b; one = record { from = omega arith; before = omega arith }; other = record { from = omega arith; before = omega arith } }
+    go false e q =
+        let ge = ltb-false a b e in
+        let lt = ltb-true (a - b) k q in
+        record { byte = a; one = record { from = omega arith; before = omega arith }; other = record { from = omega arith; before = omega arith } }
+
+overlap-false : (a n b k : ℕ) → overlap a n b k ≡ false → (x : ℕ) → Among a n x → Among b k x → ⊥
+unfolding overlap
+overlap-false a n b k h x i j = go (ltb a b) refl h
+  where
+    from-a : a ≤ x
+    from-a = i .from
+
+    before-a : x < a + n
+    before-a = i .before
+
+    from-b : b ≤ x
+    from-b = j .from
+
+    before-b : x < b + k
+    before-b = j .before
+
+    go : (y : Bool) → ltb a b ≡ y → cond y (ltb (b - a) n) (ltb (a - b) k) ≡ false → ⊥
+    go true e q =
+        let lt = ltb-true a b e in
+        let ge = ltb-false (b - a) n q in
+        omega (arith, from-a, before-a, from-b, before-b)
+    go false e q =
+        let ge = ltb-false a b e in
+        let ge′ = ltb-false (a - b) k q in
+        omega (arith, from-a, before-a, from-b, before-b)
+
+-- ── What the walks of a MiB use ──
+
+by-first : (at n w : ℕ) (x y z : Bool) →
+    touchesTable (cond x (Table (pointerOf w)) (cond y (cond z (Section (sectionEntry w 0)) (Failing FirstUnmapped)) (Failing FirstUnmapped))) at n
+    ≡ cond x (overlap at n (pointerOf w .base) tableSize) false
+by-first at n w true y z = refl
+by-first at n w false true true = refl
+by-first at n w false true false = refl
+by-first at n w false false z = refl
+
+-- whether a level-one word points to a table that n bytes touch
+tableTest : ℕ → ℕ → ℕ → Bool
+tableTest w at n = cond (eqb (bits 1 0 w) 1) (overlap at n (tableBase w) tableSize) false
+
+by-word : (at n w : ℕ) → touchesTable (firstOf w 0) at n ≡ tableTest w at n
+unfolding firstOf bits tableTest
+by-word at n w = by-first at n w (eqb (kindOf w) 1) (eqb (kindOf w) 2) (eqb (superBit w) 0) ∙ ap (λ x. cond (eqb x 1) (overlap at n (pointerOf w .base) tableSize) false) low
+  where
+    low : kindOf w ≡ w / 2 ^ 0 % 2 ^ (suc 1 - 0)
+    low = omega arith
+
+table-same : (m : List ℕ) (first at n : ℕ) →
+    touchesTable (firstFrom (descriptorAt m first) 0) at n ≡ cond (inMemory m first wordSize) (tableTest (value m first wordSize) at n) false
+unfolding loadAt
+table-same m first at n =
+    push (λ x. touchesTable (firstFrom x 0) at n) (within Four m first) (Value (numberAt Four m first)) Outside
+    ∙ ap (λ x. cond (within Four m first) x false) (by-word at n (numberAt Four m first) ∙ ap (λ w. tableTest w at n) (number-same Four m first))
+    ∙ ap (λ b. cond b (tableTest (value m first wordSize) at n) false) (within-same Four m first)
+
+-- a byte of the n from `at` on that the walks of MiB i use
+record Met (m : List ℕ) (root i at n : ℕ) : Type 0 where
+  byte : ℕ
+  touched : Among at n byte
+  serves : Serves m root i byte
+
+module _ (m : List ℕ) (root i at n : ℕ) where
+  abbrev first : ℕ
+  first = firstPlace root i
+
+  abbrev w : ℕ
+  w = value m first wordSize
+
+  table-true : 0 < n → cond (inMemory m first wordSize) (tableTest w at n) false ≡ true → Met m root i at n
+  unfolding tableTest
+  table-true hn h = go (inMemory m first wordSize) (eqb (bits 1 0 w) 1) refl refl h
+    where
+      go : (x y : Bool) → inMemory m first wordSize ≡ x → eqb (bits 1 0 w) 1 ≡ y → cond x (cond y (overlap at n (tableBase w) tableSize) false) false ≡ true → Met m root i at n
+      go true true p q e =
+          let z = overlap-true at n (tableBase w) tableSize hn (omega arith) e in
+          record { byte = z .byte; touched = z .one; serves = ofTable p (eqb-true (bits 1 0 w) 1 q) (z .other) }
+      go true false p q e = absurd (true≢false (sym e))
+      go false y p q e = absurd (true≢false (sym e))
+
+  mib-true : 0 < n → touchesMib m first at n ≡ true → Met m root i at n
+  unfolding touchesMib
+  mib-true hn h = go (overlap at n first wordSize) refl h
+    where
+      go : (x : Bool) → overlap at n first wordSize ≡ x → cond x true (touchesTable (firstFrom (descriptorAt m first) 0) at n) ≡ true → Met m root i at n
+      go true p e =
+          let z = overlap-true at n first wordSize hn (omega arith) p in
+          record { byte = z .byte; touched = z .one; serves = firstWord (z .other) }
+      go false p e = table-true hn (sym (table-same m first at n) ∙ e)
+
+  mib-false : touchesMib m first at n ≡ false → (b : ℕ) → Among at n b → Serves m root i b → ⊥
+  unfolding touchesMib tableTest
+  mib-false h b a s = go (overlap at n first wordSize) refl h s
+    where
+      by-table : cond (inMemory m first wordSize) (tableTest w at n) false ≡ false → Serves m root i b → overlap at n first wordSize ≡ false → ⊥
+      by-table e (firstWord x) p = overlap-false at n first wordSize p b a x
+      by-table e (ofTable x y z) p = overlap-false at n (tableBase w) tableSize (sym (read x y) ∙ e) b a z
+        where
+          read : inMemory m first wordSize ≡ true → bits 1 0 w ≡ 1 → cond (inMemory m first wordSize) (tableTest w at n) false ≡ overlap at n (tableBase w) tableSize
+          read x y = rw (x, eq-eqb (bits 1 0 w) 1 y)
+
+      go : (x : Bool) → overlap at n first wordSize ≡ x → cond x true (touchesTable (firstFrom (descriptorAt m first) 0) at n) ≡ false → Serves m root i b → ⊥
+      go true p e s = absurd (true≢false e)
+      go false p e s = by-table (sym (table-same m first at n) ∙ e) s p
+
+-- ── The window ──
+
+-- a byte of the n from `at` on that the walks of one of the first k MiB use
+record MetIn (m : List ℕ) (root k at n : ℕ) : Type 0 where
+  mib : ℕ
+  below : mib < k
+  met : Met m root mib at n
+
+touches-true : (m : List ℕ) (root at n : ℕ) → 0 < n → (k : ℕ) → touches m root k at n ≡ true → MetIn m root k at n
+unfolding touches
+touches-true m root at n hn zero h = absurd (true≢false (sym h))
+touches-true m root at n hn (suc k) h = go (touchesMib m (firstPlace root k) at n) refl h (touches-true m root at n hn k)
+  where
+    go : (x : Bool) → touchesMib m (firstPlace root k) at n ≡ x → cond x true (touches m root k at n) ≡ true →
+        (touches m root k at n ≡ true → MetIn m root k at n) → MetIn m root (suc k) at n
+    go true p e rest = record { mib = k; below = omega arith; met = mib-true m root k at n hn p }
+    go false p e rest =
+        let z = rest e in
+        let lt : z .mib < k = z .below in
+        record { mib = z .mib; below = omega arith; met = z .met }
+
+touches-false : (m : List ℕ) (root at n k : ℕ) → touches m root k at n ≡ false → (i : ℕ) → i < k → (b : ℕ) → Among at n b → Serves m root i b → ⊥
+unfolding touches
+touches-false m root at n zero h i lt b a s = absurd (let z : ⊥ = omega arith in z)
+touches-false m root at n (suc k) h i lt b a s = go (touchesMib m (firstPlace root k) at n) refl h (λ e l. touches-false m root at n k e i l b a s)
+  where
+    go : (x : Bool) → touchesMib m (firstPlace root k) at n ≡ x → cond x true (touches m root k at n) ≡ false →
+        (touches m root k at n ≡ false → i < k → ⊥) → ⊥
+    go true p e rest = absurd (true≢false e)
+    go false p e rest = by (eqb i k) refl
+      where
+        by : (y : Bool) → eqb i k ≡ y → ⊥
+        by true q = mib-false m root k at n p b a (subst (λ j. Serves m root j b) (eqb-true i k q) s)
+        by false q = let ne = eqb-false i k q in rest e (omega arith)
+
+-- a quiet store keeps away from what the walks of each MiB use
+pub quiet-apart : (m : List ℕ) (root at n : ℕ) → quiet m root at n ≡ true → (i : ℕ) → i < windowWords → (b : ℕ) → Among at n b → Serves m root i b → ⊥
+unfolding quiet
+quiet-apart m root at n h = touches-false m root at n windowWords (not-true (touches m root windowWords at n) h)
+
+pub quiet-exactly : (m : List ℕ) (root at n : ℕ) → 0 < n → at + n ≤ length m → (quiet m root at n ≡ true) ↔ Untouched m root at n
+quiet-exactly m root at n hn inside = (to, from)
+  where
+    to : quiet m root at n ≡ true → Untouched m root at n
+    to h b a u = quiet-apart m root at n h (u .mib) (u .inWindow) b a (u .serves)
+
+    from : Untouched m root at n → quiet m root at n ≡ true
+    from none = unfold quiet in go (touches m root windowWords at n) refl
+      where
+        go : (x : Bool) → touches m root windowWords at n ≡ x → not x ≡ true
+        go false e = refl
+        go true e =
+            let z = touches-true m root at n hn windowWords e in
+            let b : z .met .byte < at + n = z .met .touched .before in
+            absurd (none (z .met .byte) (z .met .touched) (record { mib = z .mib; inWindow = z .below; serves = z .met .serves; inside = omega arith }))

@@ -1,0 +1,32 @@
+-- Whether a store is quiet: it touches no byte that a present walk uses. The test goes over the level-one words of the window alone.
+use Prim.Native.Nat.{ℕ, zero, suc, _+_, _*_, _-_}
+use mathlib.Core.Bool.{Bool, true, false, cond, not}
+use mathlib.Core.List.{List}
+use lib.Dec.{ltb}
+use Rattle.model.specs.step.Walk.{descriptorAt, firstFrom}
+use Rattle.model.specs.declared.FirstLevel.{FirstLevel}
+use Rattle.model.specs.declared.FirstLevel.the-variants.{Failing, Table, Section}
+use Rattle.runs.specs.Used.{windowWords, wordSize, tableSize, firstPlace}
+
+-- whether the n bytes from a on and the k bytes from b on have one in common
+unfoldable pub overlap : ℕ → ℕ → ℕ → ℕ → Bool
+overlap a n b k = cond (ltb a b) (ltb (b - a) n) (ltb (a - b) k)
+
+-- whether the n bytes from `at` on touch the table that a level-one word points to, if it points to one
+abbrev pub touchesTable : FirstLevel → ℕ → ℕ → Bool
+touchesTable (Failing f) at n = false
+touchesTable (Section e) at n = false
+touchesTable (Table table) at n = overlap at n (table .base) tableSize
+
+-- whether they touch what the walks of a MiB use, whose level-one word stands at `first`
+unfoldable pub touchesMib : List ℕ → ℕ → ℕ → ℕ → Bool
+touchesMib m first at n = cond (overlap at n first wordSize) true (touchesTable (firstFrom (descriptorAt m first) 0) at n)
+
+-- whether they touch what the walks of the first k MiB use
+unfoldable pub touches : List ℕ → ℕ → ℕ → ℕ → ℕ → Bool
+touches m root zero at n = false
+touches m root (suc k) at n = cond (touchesMib m (firstPlace root k) at n) true (touches m root k at n)
+
+-- a store of n bytes at `at` that touches nothing in use
+unfoldable pub quiet : List ℕ → ℕ → ℕ → ℕ → Bool
+quiet m root at n = not (touches m root windowWords at n)

@@ -1,0 +1,65 @@
+-- What is said of the step for runs: from an accepted start it is the full step.
+use Prim.Native.Nat.{ℕ, _+_, _/_, _≤_, _<_}
+use mathlib.Core.Path.{_≡_}
+use mathlib.Core.Logic.{_↔_}
+use mathlib.Core.Bool.{true, false}
+use mathlib.Core.List.{List}
+use lib.ListN.{length}
+use Rattle.model.specs.Limits.{addressLimit}
+use Rattle.model.specs.reference.Rules.{walk, stored, Scope, flushes}
+use Rattle.model.specs.reference.Runs.{Checker, next}
+use Rattle.model.specs.step.Memory.{bytesOf}
+use Rattle.model.specs.step.Track.{noteTrack}
+use Rattle.model.specs.step.Machine.{After, sizeOf, accessAt, stepped, started}
+use Rattle.model.specs.Invisible.{Session, Accepted, checkerRunOf, atEnd, checker}
+use Rattle.model.specs.declared.Registers.{Registers}
+use Rattle.model.specs.declared.Operation.{Operation}
+use Rattle.model.specs.declared.Kind.the-variants.{Write}
+use Rattle.model.specs.declared.Access.the-variants.{Physical}
+use Rattle.model.specs.declared.Purpose.the-variants.{ToWrite}
+use Rattle.runs.specs.Used.{Untouched}
+use Rattle.runs.specs.Quiet.{quiet}
+use Rattle.runs.specs.Step.{runStepped}
+
+-- The test of a store in memory says that it is quiet exactly when it touches no used byte; and then the walk of every address of the
+-- window finds afterwards what it found before.
+pub record QuietStores : Type 0 where
+  pub exactly : (m : List ℕ) (root at n : ℕ) → 0 < n → at + n ≤ length m → (quiet m root at n ≡ true) ↔ Untouched m root at n
+  pub walks : (m : List ℕ) (root at n v a : ℕ) → at + n ≤ length m → quiet m root at n ≡ true → a < addressLimit →
+      walk (stored m at n v) root a ≡ walk m root a
+
+-- the same answer, registers and memory
+pub record Alike (x y : After) : Type 0 where
+  pub answer : x .answer ≡ y .answer
+  pub registers : x .registers ≡ y .registers
+  pub memory : x .memory ≡ y .memory
+
+-- the checker whose step is the one for runs
+abbrev pub runChecker : Checker
+runChecker = record { start = started; step = runStepped }
+
+-- what a run from a start has come to
+abbrev pub reached : Session → After
+reached x = atEnd checker x
+
+pub record SameRuns : Type 0 where
+  -- whatever it is handed, answer, registers and memory are those of the full step
+  pub alike : (o : Operation) (r : Registers) (m t : List ℕ) → Alike (runStepped o r m t) (stepped o r m t)
+  -- after every operation of a run from an accepted start, to note the track again changes no word
+  pub noted : (x : Session) → Accepted checker x →
+      noteTrack (reached x .memory) (reached x .registers .root) (reached x .registers .context) (reached x .track) ≡ reached x .track
+  -- so a quiet store changes no track word,
+  pub quietStore : (x : Session) → Accepted checker x → (o : Operation) (p : ℕ) → o .kind ≡ Write →
+      accessAt (reached x .registers) (reached x .memory) (reached x .track) ToWrite (sizeOf (o .b)) (o .a) ≡ Physical p →
+      quiet (reached x .memory) (reached x .registers .root) p (bytesOf (sizeOf (o .b))) ≡ true →
+      next checker o (reached x) .track ≡ reached x .track
+  -- and neither does an operation that leaves memory, root and context as they were and flushes nothing
+  pub leaves : (x : Session) → Accepted checker x → (o : Operation) →
+      next checker o (reached x) .memory ≡ reached x .memory →
+      next checker o (reached x) .registers .root ≡ reached x .registers .root →
+      next checker o (reached x) .registers .context ≡ reached x .registers .context →
+      ((u : Scope) (page : ℕ) → flushes (o .kind) o u page ≡ false) →
+      next checker o (reached x) .track ≡ reached x .track
+  -- On every state that such a run reaches, the step for runs is the full step, and so is the whole run.
+  pub step : (x : Session) → Accepted checker x → (o : Operation) → next runChecker o (reached x) ≡ next checker o (reached x)
+  pub run : (x : Session) → Accepted checker x → checkerRunOf runChecker x ≡ checkerRunOf checker x
