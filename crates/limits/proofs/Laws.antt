@@ -6,7 +6,7 @@ use native.Mathlib.Omega.{arith}
 use lib.Dec.{eqb, ltb}
 use borrow.Author.Tests.{lt-ltb}
 use Rattle.model.specs.Limits.{wordLimit}
-use Rattle.model.specs.step.Checks.{fieldsFit}
+use Rattle.model.specs.step.Checks.{fieldsFit, domainsFit}
 
 -- a word fits into four bytes
 same : (b : Bool) → true ≡ cond b true true
@@ -24,3 +24,8 @@ one-field i w h = ap (λ n. fieldsFit n w) (let q : 16 - i ≡ suc (16 - (i + 1)
 pub no-field : (i w : ℕ) → 16 ≤ i → fieldsFit (16 - i) w ≡ true
 unfolding fieldsFit
 no-field i w h = ap (λ n. fieldsFit n w) (let q : 16 - i ≡ 0 = omega (arith, h) in q)
+
+-- a register whose fields are all 1
+pub all-1 : domainsFit 0x55555555 ≡ true
+unfolding domainsFit fieldsFit
+all-1 = refl

@@ -67,6 +67,9 @@ const FIELDS: u32 = 16;
 pub fn domains_fit(domains: u32) -> bool
     ensures { λ r. ⌜ r ≡ domainsFit domains ⌝ }
 {
+    if domains == 1431655765 { // 0x55555555: as start sets them, and most lists leave them
+        return true;
+    }
     let mut rest = domains;
     let mut i = 0;
     while i < FIELDS {

@@ -134,49 +134,44 @@ fn field_c(n: Named, a: Value, b: Value, l: &[u8]) -> Line
 fn field_b(n: Named, a: Value, l: &[u8]) -> Line
     ensures { λ r. ⌜ r ≡ fieldB n a (now (l .entry)) ⌝ }
 {
-    if !text::has(l, b',') {
-        return Line::Refused(Reason::Shape);
+    let end = text::find(l, b',');
+    if end < l.len() {
+        return field_c(n, a, text::read_value(&l[..end]), &l[end + 1..]);
     }
-    field_c(
-        n,
-        a,
-        text::read_value(text::until(l, b',')),
-        text::past(l, b','),
-    )
+    Line::Refused(Reason::Shape)
 }
 
 // The field a and the two after it.
 fn field_a(n: Named, l: &[u8]) -> Line
     ensures { λ r. ⌜ r ≡ fieldA n (now (l .entry)) ⌝ }
 {
-    if !text::has(l, b',') {
-        return Line::Refused(Reason::Shape);
+    let end = text::find(l, b',');
+    if end < l.len() {
+        return field_b(n, text::read_value(&l[..end]), &l[end + 1..]);
     }
-    field_b(
-        n,
-        text::read_value(text::until(l, b',')),
-        text::past(l, b','),
-    )
+    Line::Refused(Reason::Shape)
 }
 
 // The four fields of a line without its newline.
 fn fields(l: &[u8]) -> Line
     ensures { λ r. ⌜ r ≡ fieldsOf (now (l .entry)) ⌝ }
 {
-    if !text::has(l, b',') {
-        return Line::Refused(Reason::Shape);
+    let end = text::find(l, b',');
+    if end < l.len() {
+        return field_a(name_of(&l[..end]), &l[end + 1..]);
     }
-    field_a(name_of(text::until(l, b',')), text::past(l, b','))
+    Line::Refused(Reason::Shape)
 }
 
 // Reads the first line of what is left of a list.
 pub fn read_line(list: &[u8]) -> Line
     ensures { λ r. ⌜ (r ≡ lineOf (now (list .entry))) × (lineNumber r ≡ lineNumber (lineOf (now (list .entry)))) ⌝ }
 {
-    if !text::has(list, b'\n') {
-        return Line::Refused(Reason::Shape);
+    let end = text::find(list, b'\n');
+    if end < list.len() {
+        return fields(&list[..end]);
     }
-    fields(text::until(list, b'\n'))
+    Line::Refused(Reason::Shape)
 }
 
 // What is left of a list after its first line.

@@ -9,7 +9,7 @@ use native.Mathlib.Nat.{le-of-suc-le-suc}
 use lib.ListN.{length, take, drop, getD, drop-of-length-le, length-drop}
 use lib.Dec.{eqb, ltb, leb, leb·suc-suc}
 use lib.Seq.{drop-cons, take-all}
-use borrow.Author.Tests.{eq-eqb, ne-eqb, eqb-true, eqb-false, lt-ltb}
+use borrow.Author.Tests.{eq-eqb, ne-eqb, eqb-true, eqb-false, lt-ltb, le-ltb}
 use Rattle.text.specs.Split.{has, until, past, same}
 
 -- one turn of the search
@@ -66,6 +66,16 @@ until-length b (x ∷ xs) = go (until-length b xs) (eqb x b)
 -- the part behind the place, as a slice is cut there
 pub past-part : (b : ℕ) (l : List ℕ) (n : ℕ) → n ≡ length (until b l) → take (length l - (n + 1)) (drop (n + 1) l) ≡ past b l
 past-part b l n e = take-all (length l - (n + 1)) (drop (n + 1) l) (rw length-drop (omega arith)) ∙ rw (add-one, e) (past-drop b l)
+
+-- a place that was looked for: b stands there, or nowhere; and what stands before it
+pub found-has : (b : ℕ) (l : List ℕ) (n : ℕ) → n ≡ length (until b l) → n < length l → has b l ≡ true
+found-has b l n e h = sym (has-place b l) ∙ lt-ltb (length (until b l)) (length l) (omega arith)
+
+pub found-none : (b : ℕ) (l : List ℕ) (n : ℕ) → n ≡ length (until b l) → length l ≤ n → has b l ≡ false
+found-none b l n e h = sym (has-place b l) ∙ le-ltb (length (until b l)) (length l) (omega arith)
+
+pub found-before : (b : ℕ) (l : List ℕ) (n : ℕ) → n ≡ length (until b l) → take n l ≡ until b l
+found-before b l n e = ap (λ i. take i l) e ∙ until-take b l
 
 pub past-part-end : (b : ℕ) (l : List ℕ) (n : ℕ) → n ≡ length (until b l) → length l ≤ n → take (length l - n) (drop n l) ≡ past b l
 past-part-end b l n e h =

@@ -14,7 +14,7 @@ pub enum Value {
 }
 
 // The place of the first b, or the length where there is none.
-fn find(s: &[u8], b: u8) -> usize
+pub fn find(s: &[u8], b: u8) -> usize
     ensures { λ r. ⌜ r ≡ length (Split·until b (now (s .entry))) ⌝ }
 {
     let mut i = 0;
