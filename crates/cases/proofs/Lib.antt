@@ -10,6 +10,7 @@ pub mod GlobalCases
 pub mod GlobalWitness
 pub mod OldEntry
 pub mod PaperCases
+pub mod QuietCases
 pub mod RootChanges
 pub mod RootWitness
 pub mod SplitCases
