@@ -7,7 +7,7 @@ use std::path::Path;
 use std::process::Command;
 use std::{env, fs};
 
-fn op(kind: Kind, a: u32, b: u32, c: u32) -> Operation {
+pub fn op(kind: Kind, a: u32, b: u32, c: u32) -> Operation {
     Operation { kind, a, b, c }
 }
 
@@ -80,7 +80,7 @@ fn lists() -> Vec<List> {
 /// The ways to note the rows that the plain program has, by the argument that asks for each.
 pub const WAYS: [(&str, rival::Note); 2] = [("by-page", rival::by_page), ("by-mib", rival::by_mib)];
 
-fn rival(way: &str, list: &Path, folder: &Path) -> Vec<u8> {
+pub fn rival(way: &str, list: &Path, folder: &Path) -> Vec<u8> {
     let program = env::current_exe().expect("this program has a path");
     let output = Command::new(program)
         .arg(way)
