@@ -1,5 +1,6 @@
-//! What the comparisons share: how many cases to try and from which seed, tallies, and the cases
-//! that failed.
+//! What the comparisons share: how many cases to try and from which seed, tallies, the cases that
+//! failed, and reports that have to be the model's.
+use model::list::report;
 use model::random::Random;
 use std::collections::BTreeMap;
 use std::fmt::Debug;
@@ -67,4 +68,40 @@ pub fn keep(name: &str, case: u64, files: &[(&str, &[u8])]) -> PathBuf {
         fs::write(folder.join(file), bytes).expect("a file of the case");
     }
     folder
+}
+
+/// The program's report of a list on an image file, which has to be the model's. What belongs to a
+/// case in which it is not is kept.
+pub fn same_report(name: &str, case: u64, image: Option<&[u8]>, list: &[u8]) -> String {
+    let expected = report(image, list);
+    let found = programs::replay(list, image);
+    if expected.as_bytes() != found {
+        let files: [(&str, &[u8]); 4] = [
+            ("image.bin", image.unwrap_or_default()),
+            ("list", list),
+            ("expected", expected.as_bytes()),
+            ("found", &found),
+        ];
+        let folder = keep(name, case, &files);
+        panic!("the reports differ; they are in {}", folder.display());
+    }
+    expected
+}
+
+/// An image of 32,768 bytes, zero but for these words.
+pub fn image(words: &[(usize, u32)]) -> Vec<u8> {
+    let mut image = vec![0; 32_768];
+    for (at, word) in words {
+        image[*at..*at + 4].copy_from_slice(&word.to_le_bytes());
+    }
+    image
+}
+
+/// What the program prints behind its header, which has to be what the model says.
+pub fn lines(image: &[u8], list: &str) -> Vec<String> {
+    let list = format!("op,a,b,c\n{list}");
+    let found = programs::replay(list.as_bytes(), Some(image));
+    assert_eq!(found, report(Some(image), list.as_bytes()).into_bytes());
+    let found = String::from_utf8(found).expect("a report is ASCII");
+    found.lines().skip(1).map(String::from).collect()
 }

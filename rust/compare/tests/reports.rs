@@ -1,5 +1,5 @@
 //! The program against the model's report, on generated images and lists, whole and damaged.
-use compare::{cases, keep, Tally};
+use compare::{cases, image, lines, same_report, Tally};
 use model::generate;
 use model::list::report;
 use model::random::Random;
@@ -10,20 +10,8 @@ fn compared(case: u64, random: &mut Random) -> (Vec<u8>, String) {
     let image = generate::image_file(random);
     let memory = image.as_ref().map_or(0, Vec::len) as u32;
     let list = generate::list(random, memory);
-    let expected = report(image.as_deref(), &list);
-    let found = programs::replay(&list, image.as_deref());
-    if expected.as_bytes() != found {
-        let bytes = image.unwrap_or_default();
-        let files: [(&str, &[u8]); 4] = [
-            ("image.bin", &bytes),
-            ("list", &list),
-            ("expected", expected.as_bytes()),
-            ("found", &found),
-        ];
-        let folder = keep("report", case, &files);
-        panic!("the reports differ; they are in {}", folder.display());
-    }
-    (list, expected)
+    let report = same_report("report", case, image.as_deref(), &list);
+    (list, report)
 }
 
 /// What a line of a report says: `ok`, or `fault` or `refused` with its number.
@@ -104,23 +92,6 @@ fn reports() {
         seen.add(&list, &report);
     }
     seen.must_have();
-}
-
-/// What the program prints behind its header, which has to be what the model says.
-fn lines(image: &[u8], list: &str) -> Vec<String> {
-    let list = format!("op,a,b,c\n{list}");
-    let found = programs::replay(list.as_bytes(), Some(image));
-    assert_eq!(found, report(Some(image), list.as_bytes()).into_bytes());
-    let found = String::from_utf8(found).expect("a report is ASCII");
-    found.lines().skip(1).map(String::from).collect()
-}
-
-fn image(words: &[(usize, u32)]) -> Vec<u8> {
-    let mut image = vec![0; 32_768];
-    for (at, word) in words {
-        image[*at..*at + 4].copy_from_slice(&word.to_le_bytes());
-    }
-    image
 }
 
 /// The image and the list of the rules.

@@ -457,7 +457,7 @@ fn address(random: &mut Random) -> u32 {
     let pages = if random.one_in(2) {
         &PAGES[..]
     } else {
-        &PAGES[7..]
+        &PAGES[8..]
     };
     let page = *random.pick(pages);
     match random.below(8) {

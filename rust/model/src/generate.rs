@@ -1,6 +1,8 @@
 //! Images and lists on which maps change often: stores to descriptors, pages that turn from own to
 //! global and back, XN set and cleared, domains changed, opened and closed, contexts switched,
-//! roots switched under context 0 and tried under others, flushes of each kind.
+//! roots switched under context 0 and tried under others, flushes of each kind, stores that are
+//! nearly quiet.
+use crate::generate_stores::nearly_quiet;
 use crate::machine::{Kind, Operation, CLIENTS, KINDS};
 use crate::random::Random;
 
@@ -26,7 +28,7 @@ const TABLES: u32 = 0x2000;
 const MOST: u32 = 0x8000;
 
 /// nG of a section, and of a page.
-const NG_SECTION: u32 = 1 << 17;
+pub(crate) const NG_SECTION: u32 = 1 << 17;
 const NG_PAGE: u32 = 1 << 11;
 
 /// XN of a section, of a large page, and of a small one.
@@ -38,17 +40,17 @@ const XN_SMALL: u32 = 1;
 const DOMAIN: u32 = 0xF << 5;
 
 /// A section at 0, AP 3, in domain 0, which is global and may be fetched from.
-const SECTION: u32 = 0xC02;
+pub(crate) const SECTION: u32 = 0xC02;
 
 /// A table of generated images that maps a MiB as such sections do, page by page: its even pages are
 /// own and its odd ones global, and two in four have XN set.
 const EQUAL_PAGES: u32 = 0x1C00;
 
 /// The pages that generated lists touch.
-pub const PAGES: [u32; 12] = [0, 1, 2, 3, 4, 16, 17, 256, 257, 300, 512, 1023];
+pub const PAGES: [u32; 14] = [0, 1, 2, 3, 4, 16, 17, 255, 256, 257, 300, 511, 512, 1023];
 
 /// A domain: mostly one of a few, so that what descriptors use is what registers open and close.
-fn domain(random: &mut Random) -> u32 {
+pub(crate) fn domain(random: &mut Random) -> u32 {
     match random.below(8) {
         0 => random.below(16) as u32,
         _ => *random.pick(&[0, 0, 1, 8, 15]),
@@ -56,7 +58,7 @@ fn domain(random: &mut Random) -> u32 {
 }
 
 /// A level-one word in another domain.
-fn in_domain(word: u32, domain: u32) -> u32 {
+pub(crate) fn in_domain(word: u32, domain: u32) -> u32 {
     word & !DOMAIN | domain << 5
 }
 
@@ -107,7 +109,7 @@ fn mib(random: &mut Random) -> u32 {
 
 /// The level-one word of a root's first MiB, in domain 0: it points to the table whose first pages
 /// are the tables.
-fn pointer(root: u32) -> u32 {
+pub(crate) fn pointer(root: u32) -> u32 {
     0x401 | (root & 0x80) << 5
 }
 
@@ -194,7 +196,7 @@ pub fn image(random: &mut Random) -> Vec<u8> {
 /// The roots that lists use.
 pub const ROOTS: [u32; 3] = [0, 0x80, 0x100];
 
-fn op(kind: Kind, a: u32, b: u32, c: u32) -> Operation {
+pub(crate) fn op(kind: Kind, a: u32, b: u32, c: u32) -> Operation {
     Operation { kind, a, b, c }
 }
 
@@ -277,8 +279,8 @@ fn flush(random: &mut Random, at: u32, context: u32) -> Operation {
     }
 }
 
-/// A level-two word of page 2: none, or one of two frames, own or global, with XN clear or set.
-fn second_of_page_2(random: &mut Random) -> u32 {
+/// A level-two word: none, or one of two frames, own or global, with XN clear or set.
+fn second_of_a_page(random: &mut Random) -> u32 {
     let frame = *random.pick(&[2, 3]);
     match random.below(5) {
         0 => 0,
@@ -286,19 +288,19 @@ fn second_of_page_2(random: &mut Random) -> u32 {
     }
 }
 
-/// Two level-two words of page 2, which may differ in XN alone.
-fn two_of_page_2(random: &mut Random) -> [u32; 2] {
-    let first = second_of_page_2(random);
+/// Two level-two words, which may differ in XN alone.
+pub(crate) fn two_of_a_page(random: &mut Random) -> [u32; 2] {
+    let first = second_of_a_page(random);
     let anew = match random.below(4) {
         0 => first ^ XN_SMALL,
-        _ => second_of_page_2(random),
+        _ => second_of_a_page(random),
     };
     [first, anew]
 }
 
-/// Two level-one words of the second MiB, which may differ in XN alone, in the domain alone, or for
+/// Two level-one words that map a MiB, which may differ in XN alone, in the domain alone, or for
 /// this page of it in whether a section maps it.
-fn two_of_second_mib(random: &mut Random, page: u32) -> [u32; 2] {
+pub(crate) fn two_of_a_mib(random: &mut Random, page: u32) -> [u32; 2] {
     let first = mib(random);
     let ng = if page.is_multiple_of(2) {
         NG_SECTION
@@ -321,11 +323,11 @@ fn two_of_second_mib(random: &mut Random, page: u32) -> [u32; 2] {
 fn turn(random: &mut Random, contexts: u32) -> Vec<Operation> {
     let (page, at, words) = if random.one_in(2) {
         let at = *random.pick(&[0x408, 0x408, 0x1408]);
-        (2, at, two_of_page_2(random))
+        (2, at, two_of_a_page(random))
     } else {
         let page = 256 + random.below(2) as u32;
         let at = 4 + *random.pick(&ROOTS);
-        (page, at, two_of_second_mib(random, page))
+        (page, at, two_of_a_mib(random, page))
     };
     let [first, anew] = words.map(|word| op(Kind::Write, at, 4, word));
     let last = if random.one_in(2) {
@@ -349,7 +351,7 @@ fn turn(random: &mut Random, contexts: u32) -> Vec<Operation> {
 }
 
 /// An access to a word, by a read, a write or a fetch.
-fn access(random: &mut Random, at: u32) -> Operation {
+pub(crate) fn access(random: &mut Random, at: u32) -> Operation {
     match random.below(3) {
         0 => op(Kind::Read, at, 4, 0),
         1 => op(Kind::Write, at, 4, random.word()),
@@ -400,8 +402,8 @@ fn switch(random: &mut Random, contexts: u32) -> Vec<Operation> {
     list
 }
 
-/// At least this many operations, with pages that turn, domains opened and closed, and roots
-/// switched among them.
+/// At least this many operations, with pages that turn, domains opened and closed, roots switched,
+/// and stores that are nearly quiet among them.
 pub fn operations(random: &mut Random, contexts: u32, memory: u32, least: u64) -> Vec<Operation> {
     let mut list = Vec::new();
     while (list.len() as u64) < least {
@@ -409,6 +411,7 @@ pub fn operations(random: &mut Random, contexts: u32, memory: u32, least: u64) -
             0..=2 => list.extend(turn(random, contexts)),
             3 => list.extend(opened_or_closed(random)),
             4 => list.extend(switch(random, contexts)),
+            5 => list.extend(nearly_quiet(random, contexts, memory)),
             _ => list.push(operation(random, contexts, memory)),
         }
     }
