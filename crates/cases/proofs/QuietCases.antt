@@ -15,7 +15,7 @@ use Rattle.model.specs.declared.Kind.{Kind}
 use Rattle.model.specs.declared.Kind.the-variants.{Read, Write, Root, Asid, Mode, All, Addr, Ctx, AddrCtx, Fetch, Domain}
 use Rattle.model.specs.declared.Answer.the-variants.{Done}
 use Rattle.model.proofs.CaseTools.{allMatch, put, zeros, refusalCode, faultCode, answered}
-use Rattle.runs.specs.Quiet.{overlap, touchesMib, touches, quiet}
+use Rattle.runs.specs.Quiet.{overlap, touchesTables, touches, quiet}
 use Rattle.runs.specs.Step.{extentOf, flushedBy, noteOnePage, runOperate, runStepped}
 
 -- an operation of a run with its fields, on what the one before it left; to unfold it is to unfold the whole step
@@ -24,7 +24,7 @@ unfolding within loadAt writtenAt walkPage firstAt firstOf secondAt secondOf ker
     eachRow isEntry addEntry notePage lastRow noteTrack flushAll flushPage flushContext flushPageIn staleWord stalePage memoryFits
     trackFits lengthsFit rootFits fieldsFit domainsFit registersFit sizeFits addressFits valueFits newRootFits contextFits modeFits newDomainsFit mayAsk
     rootMayChange checks startChecks firstFailing permissionFaultOf domainFaultOf decided accessAt readStep writeStep fetchStep operate started
-    overlap touchesMib touches quiet extentOf flushedBy noteOnePage runOperate runStepped
+    overlap touchesTables touches quiet extentOf flushedBy noteOnePage runOperate runStepped
 step k a b c x = runStepped (record { kind = k; a = a; b = b; c = c }) (x .registers) (x .memory) (x .track)
 
 -- The image has two maps, and 0x44332211 at 0x10. Each page is at frame 0, so that an offset below 0x1000 in a page is the address of the
@@ -76,7 +76,7 @@ abbrev acrossEdges : List (ℕ × ℕ)
 acrossEdges = used 0x7F 2 ∷ used 0x7D 4 ∷ unused 0x7C 3 ∷ used 0x3FF 2 ∷ used 0x3FD 4 ∷ used 0x8F 2 ∷ used 0xBFF 4 ∷ []
 
 pub quiet-cases : allMatch (firstWords ++ (tables ++ (others ++ acrossEdges))) ≡ true
-unfolding overlap touchesMib touches quiet within loadAt firstOf
+unfolding overlap touchesTables touches quiet within loadAt firstOf
 quiet-cases = refl
 
 -- ── The step for runs, from a start with two contexts ──

@@ -1,7 +1,9 @@
 // Whether a store is quiet: it touches no byte that a present walk uses. The test goes over the level-one words of the window alone.
 ghost use mathlib.Core.Path.{_≡_};
 ghost use Rattle.model.specs.step.Memory.{bytesOf};
-ghost use Rattle.runs.specs.Quiet.{overlap, touchesTable, touchesMib, quiet};
+ghost use Rattle.model.specs.step.Walk.{descriptorAt, firstFrom};
+ghost use Rattle.runs.specs.Used.{windowWords};
+ghost use Rattle.runs.specs.Quiet.{overlap, touchesTable, touchesTables, quiet};
 use descriptor::first_of;
 use memory::bytes;
 use memory::load;
@@ -30,30 +32,37 @@ fn touches_table(x: FirstLevel, at: usize, n: usize) -> bool
     }
 }
 
-// Whether they touch what the walks of a MiB use, whose level-one word stands at `first`.
+// Whether they touch the table of the MiB whose level-one word stands at `first`.
 fn touches_mib(m: &[u8], first: usize, at: usize, n: usize) -> bool
-    ensures { λ r. ⌜ r ≡ touchesMib (now (m .entry)) first at n ⌝ }
+    ensures { λ r. ⌜ r ≡ touchesTable (firstFrom (descriptorAt (now (m .entry)) first) 0) at n ⌝ }
 {
-    if overlaps(at, n, first, 4) { // wordSize
-        return true;
-    }
     match load(m, first, Size::Four) {
         Loaded::Value(w) => touches_table(first_of(w, 0), at, n),
         Loaded::Outside => false,
     }
 }
 
-// Whether a store of this size at `at` is quiet.
-pub fn is_quiet(m: &[u8], root: u32, at: usize, size: Size) -> bool
-    ensures { λ r. ⌜ r ≡ quiet (now (m .entry)) root at (bytesOf size) ⌝ }
+// Whether they touch the table of a MiB of the window.
+fn touches_tables(m: &[u8], root: u32, at: usize, n: usize) -> bool
+    ensures { λ r. ⌜ r ≡ touchesTables (now (m .entry)) root windowWords at n ⌝ }
 {
-    let n = bytes(size);
     let mut i = 4; // windowWords
     while 0 < i {
         i -= 1;
         if touches_mib(m, root as usize + 4 * i, at, n) {
-            return false;
+            return true;
         }
     }
-    true
+    false
+}
+
+// Whether a store of this size at `at` is quiet: it touches no level-one word of the window, and none of these tables.
+pub fn is_quiet(m: &[u8], root: u32, at: usize, size: Size) -> bool
+    ensures { λ r. ⌜ r ≡ quiet (now (m .entry)) root at (bytesOf size) ⌝ }
+{
+    let n = bytes(size);
+    if overlaps(at, n, root as usize, 16) { // wordSize * windowWords
+        return false;
+    }
+    !touches_tables(m, root, at, n)
 }

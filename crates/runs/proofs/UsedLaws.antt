@@ -1,13 +1,13 @@
 -- The test says that a store is quiet exactly when it touches no byte that a present walk uses.
 use Prim.Native.Nat.{ℕ, zero, suc, _+_, _*_, _-_, _/_, _%_, _^_, _≤_, _<_}
-use mathlib.Core.Path.{_≡_, refl, sym, ap, _∙_, subst}
+use mathlib.Core.Path.{_≡_, refl, sym, ap, _∙_}
 use mathlib.Core.Logic.{_↔_}
 use mathlib.Core.Bool.{Bool, true, false, cond, not, true≢false}
 use mathlib.Core.List.{List}
 use native.Mathlib.Omega.{arith}
 use lib.Dec.{eqb, ltb}
 use lib.ListN.{length}
-use borrow.Author.Tests.{ltb-true, ltb-false, eqb-true, eqb-false, eq-eqb, lt-ltb, le-ltb, not-true}
+use borrow.Author.Tests.{ltb-true, ltb-false, eqb-true, eqb-false, eq-eqb, not-true}
 use Rattle.model.specs.reference.Rules.{inMemory, value, bits}
 use Rattle.model.specs.step.Memory.{within, numberAt, loadAt}
 use Rattle.model.specs.step.Walk.{kindOf, superBit, pointerOf, sectionEntry, descriptorAt, firstOf, firstFrom}
@@ -18,7 +18,7 @@ use Rattle.model.specs.declared.FirstLevel.the-variants.{Failing, Table, Sectio
 use Rattle.model.proofs.BoolLaws.{push}
 use Rattle.model.proofs.Memory.{within-same, number-same}
 use Rattle.runs.specs.Used.{windowWords, wordSize, tableSize, firstPlace, tableBase, Among, Serves, firstWord, ofTable, Used, Untouched}
-use Rattle.runs.specs.Quiet.{overlap, touchesTable, touchesMib, touches, quiet}
+use Rattle.runs.specs.Quiet.{overlap, touchesTable, touchesTables, touches, quiet}
 
 -- ── Two ranges of bytes ──
 
@@ -121,30 +121,13 @@ module _ (m : List ℕ) (root i at n : ℕ) where
       go true false p q e = absurd (true≢false (sym e))
       go false y p q e = absurd (true≢false (sym e))
 
-  mib-true : 0 < n → touchesMib m first at n ≡ true → Met m root i at n
-  unfolding touchesMib
-  mib-true hn h = go (overlap at n first wordSize) refl h
+  table-false : cond (inMemory m first wordSize) (tableTest w at n) false ≡ false → (b : ℕ) → Among at n b →
+      inMemory m first wordSize ≡ true → bits 1 0 w ≡ 1 → Among (tableBase w) tableSize b → ⊥
+  unfolding tableTest
+  table-false e b a x y z = overlap-false at n (tableBase w) tableSize (sym read ∙ e) b a z
     where
-      go : (x : Bool) → overlap at n first wordSize ≡ x → cond x true (touchesTable (firstFrom (descriptorAt m first) 0) at n) ≡ true → Met m root i at n
-      go true p e =
-          let z = overlap-true at n first wordSize hn (omega arith) p in
-          record { byte = z .byte; touched = z .one; serves = firstWord (z .other) }
-      go false p e = table-true hn (sym (table-same m first at n) ∙ e)
-
-  mib-false : touchesMib m first at n ≡ false → (b : ℕ) → Among at n b → Serves m root i b → ⊥
-  unfolding touchesMib tableTest
-  mib-false h b a s = go (overlap at n first wordSize) refl h s
-    where
-      by-table : cond (inMemory m first wordSize) (tableTest w at n) false ≡ false → Serves m root i b → overlap at n first wordSize ≡ false → ⊥
-      by-table e (firstWord x) p = overlap-false at n first wordSize p b a x
-      by-table e (ofTable x y z) p = overlap-false at n (tableBase w) tableSize (sym (read x y) ∙ e) b a z
-        where
-          read : inMemory m first wordSize ≡ true → bits 1 0 w ≡ 1 → cond (inMemory m first wordSize) (tableTest w at n) false ≡ overlap at n (tableBase w) tableSize
-          read x y = rw (x, eq-eqb (bits 1 0 w) 1 y)
-
-      go : (x : Bool) → overlap at n first wordSize ≡ x → cond x true (touchesTable (firstFrom (descriptorAt m first) 0) at n) ≡ false → Serves m root i b → ⊥
-      go true p e s = absurd (true≢false e)
-      go false p e s = by-table (sym (table-same m first at n) ∙ e) s p
+      read : cond (inMemory m first wordSize) (cond (eqb (bits 1 0 w) 1) (overlap at n (tableBase w) tableSize) false) false ≡ overlap at n (tableBase w) tableSize
+      read = rw (x, eq-eqb (bits 1 0 w) 1 y)
 
 -- ── The window ──
 
@@ -154,32 +137,74 @@ record MetIn (m : List ℕ) (root k at n : ℕ) : Type 0 where
   below : mib < k
   met : Met m root mib at n
 
-touches-true : (m : List ℕ) (root at n : ℕ) → 0 < n → (k : ℕ) → touches m root k at n ≡ true → MetIn m root k at n
-unfolding touches
-touches-true m root at n hn zero h = absurd (true≢false (sym h))
-touches-true m root at n hn (suc k) h = go (touchesMib m (firstPlace root k) at n) refl h (touches-true m root at n hn k)
+tables-true : (m : List ℕ) (root at n : ℕ) → 0 < n → (k : ℕ) → touchesTables m root k at n ≡ true → MetIn m root k at n
+unfolding touchesTables
+tables-true m root at n hn zero h = absurd (true≢false (sym h))
+tables-true m root at n hn (suc k) h = go (touchesTable (firstFrom (descriptorAt m (firstPlace root k)) 0) at n) refl h (tables-true m root at n hn k)
   where
-    go : (x : Bool) → touchesMib m (firstPlace root k) at n ≡ x → cond x true (touches m root k at n) ≡ true →
-        (touches m root k at n ≡ true → MetIn m root k at n) → MetIn m root (suc k) at n
-    go true p e rest = record { mib = k; below = omega arith; met = mib-true m root k at n hn p }
+    go : (x : Bool) → touchesTable (firstFrom (descriptorAt m (firstPlace root k)) 0) at n ≡ x → cond x true (touchesTables m root k at n) ≡ true →
+        (touchesTables m root k at n ≡ true → MetIn m root k at n) → MetIn m root (suc k) at n
+    go true p e rest = record { mib = k; below = omega arith; met = table-true m root k at n hn (sym (table-same m (firstPlace root k) at n) ∙ p) }
     go false p e rest =
         let z = rest e in
         let lt : z .mib < k = z .below in
         record { mib = z .mib; below = omega arith; met = z .met }
 
-touches-false : (m : List ℕ) (root at n k : ℕ) → touches m root k at n ≡ false → (i : ℕ) → i < k → (b : ℕ) → Among at n b → Serves m root i b → ⊥
-unfolding touches
-touches-false m root at n zero h i lt b a s = absurd (let z : ⊥ = omega arith in z)
-touches-false m root at n (suc k) h i lt b a s = go (touchesMib m (firstPlace root k) at n) refl h (λ e l. touches-false m root at n k e i l b a s)
+tables-false : (m : List ℕ) (root at n k : ℕ) → touchesTables m root k at n ≡ false → (i : ℕ) → i < k →
+    touchesTable (firstFrom (descriptorAt m (firstPlace root i)) 0) at n ≡ false
+unfolding touchesTables
+tables-false m root at n zero h i lt = absurd (let z : ⊥ = omega arith in z)
+tables-false m root at n (suc k) h i lt = go (touchesTable (firstFrom (descriptorAt m (firstPlace root k)) 0) at n) refl h (tables-false m root at n k)
   where
-    go : (x : Bool) → touchesMib m (firstPlace root k) at n ≡ x → cond x true (touches m root k at n) ≡ false →
-        (touches m root k at n ≡ false → i < k → ⊥) → ⊥
+    go : (x : Bool) → touchesTable (firstFrom (descriptorAt m (firstPlace root k)) 0) at n ≡ x → cond x true (touchesTables m root k at n) ≡ false →
+        (touchesTables m root k at n ≡ false → (i : ℕ) → i < k → touchesTable (firstFrom (descriptorAt m (firstPlace root i)) 0) at n ≡ false) →
+        touchesTable (firstFrom (descriptorAt m (firstPlace root i)) 0) at n ≡ false
     go true p e rest = absurd (true≢false e)
     go false p e rest = by (eqb i k) refl
       where
-        by : (y : Bool) → eqb i k ≡ y → ⊥
-        by true q = mib-false m root k at n p b a (subst (λ j. Serves m root j b) (eqb-true i k q) s)
-        by false q = let ne = eqb-false i k q in rest e (omega arith)
+        by : (y : Bool) → eqb i k ≡ y → touchesTable (firstFrom (descriptorAt m (firstPlace root i)) 0) at n ≡ false
+        by true q = rw (eqb-true i k q) p
+        by false q = let ne = eqb-false i k q in rest e i (omega arith)
+
+-- the level-one words of the first k MiB, one behind the other, and one of them
+word-of : (root k b : ℕ) → Among root (wordSize * k) b → Among (firstPlace root ((b - root) / wordSize)) wordSize b
+word-of root k b i =
+    let f : root ≤ b = i .from in
+    let l : b < root + wordSize * k = i .before in
+    record { from = omega arith; before = omega arith }
+
+word-below : (root k b : ℕ) → Among root (wordSize * k) b → (b - root) / wordSize < k
+word-below root k b i = let f : root ≤ b = i .from in let l : b < root + wordSize * k = i .before in omega arith
+
+in-words : (root k i b : ℕ) → i < k → Among (firstPlace root i) wordSize b → Among root (wordSize * k) b
+in-words root k i b lt x =
+    let f : firstPlace root i ≤ b = x .from in
+    let l : b < firstPlace root i + wordSize = x .before in
+    record { from = omega arith; before = omega arith }
+
+touches-true : (m : List ℕ) (root at n : ℕ) → 0 < n → (k : ℕ) → 0 < k → touches m root k at n ≡ true → MetIn m root k at n
+unfolding touches
+touches-true m root at n hn k hk h = go (overlap at n root (wordSize * k)) refl h
+  where
+    go : (x : Bool) → overlap at n root (wordSize * k) ≡ x → cond x true (touchesTables m root k at n) ≡ true → MetIn m root k at n
+    go true p e =
+        let z = overlap-true at n root (wordSize * k) hn (omega arith) p in
+        record {
+          mib = (z .byte - root) / wordSize;
+          below = word-below root k (z .byte) (z .other);
+          met = record { byte = z .byte; touched = z .one; serves = firstWord (word-of root k (z .byte) (z .other)) };
+        }
+    go false p e = tables-true m root at n hn k e
+
+touches-false : (m : List ℕ) (root at n k : ℕ) → touches m root k at n ≡ false → (i : ℕ) → i < k → (b : ℕ) → Among at n b → Serves m root i b → ⊥
+unfolding touches
+touches-false m root at n k h i lt b a s = go (overlap at n root (wordSize * k)) refl h s
+  where
+    go : (x : Bool) → overlap at n root (wordSize * k) ≡ x → cond x true (touchesTables m root k at n) ≡ false → Serves m root i b → ⊥
+    go true p e s = absurd (true≢false e)
+    go false p e (firstWord x) = overlap-false at n root (wordSize * k) p b a (in-words root k i b lt x)
+    go false p e (ofTable x y z) =
+        table-false m root i at n (sym (table-same m (firstPlace root i) at n) ∙ tables-false m root at n k e i lt) b a x y z
 
 -- a quiet store keeps away from what the walks of each MiB use
 pub quiet-apart : (m : List ℕ) (root at n : ℕ) → quiet m root at n ≡ true → (i : ℕ) → i < windowWords → (b : ℕ) → Among at n b → Serves m root i b → ⊥
@@ -198,6 +223,6 @@ quiet-exactly m root at n hn inside = (to, from)
         go : (x : Bool) → touches m root windowWords at n ≡ x → not x ≡ true
         go false e = refl
         go true e =
-            let z = touches-true m root at n hn windowWords e in
+            let z = touches-true m root at n hn windowWords (omega arith) e in
             let b : z .met .byte < at + n = z .met .touched .before in
             absurd (none (z .met .byte) (z .met .touched) (record { mib = z .mib; inWindow = z .below; serves = z .met .serves; inside = omega arith }))

@@ -18,14 +18,15 @@ touchesTable (Failing f) at n = false
 touchesTable (Section e) at n = false
 touchesTable (Table table) at n = overlap at n (table .base) tableSize
 
--- whether they touch what the walks of a MiB use, whose level-one word stands at `first`
-unfoldable pub touchesMib : List ℕ → ℕ → ℕ → ℕ → Bool
-touchesMib m first at n = cond (overlap at n first wordSize) true (touchesTable (firstFrom (descriptorAt m first) 0) at n)
+-- whether they touch the table of one of the first k MiB
+unfoldable pub touchesTables : List ℕ → ℕ → ℕ → ℕ → ℕ → Bool
+touchesTables m root zero at n = false
+touchesTables m root (suc k) at n =
+    cond (touchesTable (firstFrom (descriptorAt m (firstPlace root k)) 0) at n) true (touchesTables m root k at n)
 
--- whether they touch what the walks of the first k MiB use
+-- whether they touch what the walks of the first k MiB use: the level-one words, which stand one behind the other, and these tables
 unfoldable pub touches : List ℕ → ℕ → ℕ → ℕ → ℕ → Bool
-touches m root zero at n = false
-touches m root (suc k) at n = cond (touchesMib m (firstPlace root k) at n) true (touches m root k at n)
+touches m root k at n = cond (overlap at n root (wordSize * k)) true (touchesTables m root k at n)
 
 -- a store of n bytes at `at` that touches nothing in use
 unfoldable pub quiet : List ℕ → ℕ → ℕ → ℕ → Bool

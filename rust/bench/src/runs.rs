@@ -1,7 +1,7 @@
 //! The longest lists, through `replay`, through the `replay` of an earlier commit and through the
 //! plain program, the start of a process left out.
 use crate::images::{image_a_mixed, image_of_sections, image_of_tables, NG_PAGE};
-use crate::lists::{op, rival, WAYS};
+use crate::lists::{op, rival_command, WAYS};
 use crate::timing::shortest;
 use model::generate;
 use model::machine::{Kind, Operation};
@@ -9,6 +9,7 @@ use programs::Folder;
 use std::fs::{self, File};
 use std::io;
 use std::path::{Path, PathBuf};
+use std::process::{Command, Stdio};
 use std::time::Duration;
 
 /// How many runs of each program are timed.
@@ -17,8 +18,7 @@ const RUNS: usize = 200;
 /// The most bytes of a list.
 const LIST: usize = 65_536;
 
-/// An image, and an address of it behind which 256 bytes are plain data that page 0's table, at 0x400, does not
-/// map the first 64 pages from page 64 on to.
+/// An image, and an address from which on 256 bytes are plain data.
 struct Place {
     name: &'static str,
     image: Vec<u8>,
@@ -86,39 +86,41 @@ fn longest(make: Make, data: u32) -> (usize, Vec<u8>) {
 /// A list in a folder with an image, and the program of an earlier commit.
 struct Trial<'a> {
     before: &'a Path,
-    folder: &'a Folder,
+    folder: &'a Path,
     list: PathBuf,
 }
 
 impl Trial<'_> {
-    fn before(&self) -> Vec<u8> {
-        let list = File::open(&self.list).expect("the list");
-        let mut program = programs::program_at(self.before, self.folder.path());
-        program.stdin(list).output().expect("it runs").stdout
+    /// A program on the list: after, before, page by page, MiB by MiB.
+    fn command(&self, which: usize) -> Command {
+        let mut command = match which {
+            0 => programs::program("replay", self.folder),
+            1 => programs::program_at(self.before, self.folder),
+            _ => return rival_command(WAYS[which - 2].0, &self.list, self.folder),
+        };
+        command.stdin(File::open(&self.list).expect("the list"));
+        command
     }
 
-    fn after(&self) -> Vec<u8> {
-        programs::replay_in(self.folder, &self.list)
+    /// Runs one of them, and throws its report away.
+    fn run(&self, which: usize) {
+        let mut command = self.command(which);
+        let status = command.stdout(Stdio::null()).status().expect("it runs");
+        assert!(status.success(), "{status}");
     }
 
-    fn plain(&self, way: usize) -> Vec<u8> {
-        rival(WAYS[way].0, &self.list, self.folder.path())
-    }
-
-    /// The time of each: after, before, page by page, MiB by MiB. All have to print the same.
+    /// The time of each. All have to print the same.
     fn times(&self) -> [Duration; 4] {
-        let report = self.after();
-        assert!(report == self.before(), "the report before differs");
-        for way in 0..WAYS.len() {
-            assert!(report == self.plain(way), "the plain report differs");
-        }
+        let report = |which| self.command(which).output().expect("it runs").stdout;
+        let same = (1..4).all(|which| report(which) == report(0));
+        assert!(same, "the reports differ");
         shortest(
             RUNS,
             [
-                &mut || drop(self.after()),
-                &mut || drop(self.before()),
-                &mut || drop(self.plain(0)),
-                &mut || drop(self.plain(1)),
+                &mut || self.run(0),
+                &mut || self.run(1),
+                &mut || self.run(2),
+                &mut || self.run(3),
             ],
         )
     }
@@ -143,9 +145,10 @@ pub fn against_before(before: &Path) -> io::Result<()> {
         println!("\n{name}:\n");
         println!("| list | operations | after | before | times | page by page | times | MiB by MiB | times |");
         println!("|---|---|---|---|---|---|---|---|---|");
-        let folder = &Folder::with_image(Some(&image));
+        let folder = Folder::with_image(Some(&image));
+        let folder = folder.path();
         let trial = |text: &[u8]| {
-            let list = folder.path().join("list");
+            let list = folder.join("list");
             fs::write(&list, text).expect("the list");
             let trial = Trial {
                 before,

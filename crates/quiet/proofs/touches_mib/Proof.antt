@@ -1,11 +1,9 @@
-use mathlib.Core.Path.{_≡_, ap, sym, _∙_}
-use mathlib.Core.Bool.{Bool, true, false, cond}
+use mathlib.Core.Path.{ap, _∙_}
 use Rattle.model.specs.step.Walk.{firstFrom}
 use Rattle.model.specs.declared.Loaded.{Loaded}
 use Rattle.model.specs.declared.FirstLevel.{FirstLevel}
 use Rattle.memory.proofs.Laws.{via}
-use Rattle.runs.specs.Quiet.{touchesTable, touchesMib}
-use Rattle.quiet.proofs.Laws.{apart}
+use Rattle.runs.specs.Quiet.{touchesTable}
 use borrow.Author.Needs.{needs}
 use Rattle.quiet.proofs.touches_mib.Statement.{statement}
 use Rattle.quiet.proofs.touches_mib.Tie as tie
@@ -13,15 +11,7 @@ use Rattle.quiet.proofs.touches_mib.Reads as reads
 use Rattle.quiet.proofs.touches_mib.Lts as lts
 use Rattle.descriptor.proofs.first_of.Reads as first-of-reads
 use Rattle.memory.proofs.load.Reads as load-reads
-use Rattle.quiet.proofs.overlaps.Reads as overlaps-reads
 use Rattle.quiet.proofs.touches_table.Reads as touches-table-reads
-
-overlaps-requires : tie.Need-overlaps-requires
-overlaps-requires c κs = search needs
-
-returns : tie.Need-returns
-unfolding touchesMib
-returns c = rw (sym (c .before .overlaps .ensures) ∙ c .if1 .taken)
 
 load-requires : tie.Need-load-requires
 load-requires c κs = search needs
@@ -38,29 +28,23 @@ touches-table-requires c κs = search needs
 enum-told : tie.Need-enum-told
 enum-told c = search needs
 
-returns-2 : tie.Need-returns-2
-unfolding touchesMib
-returns-2 c = let l = c .before .before .before .before .before in let a = l .before .before .before .before .args in
+returns : tie.Need-returns
+returns c = let l = c .before .before .before .before .before in let a = l .before .before .args in
     c .touches-table .ensures
     ∙ ap (λ (x : FirstLevel). touchesTable x (a .at) (a .n)) (c .before .first-of .ensures ∙ via (λ (x : Loaded). firstFrom x 0) (l .load .ensures) (c .before .before .before .w .given .1))
-    ∙ sym (apart (l .before .before .overlaps .ensures) (l .before .if1 .left))
 
-returns-3 : tie.Need-returns-3
-unfolding touchesMib
-returns-3 c = let l = c .before .before in let a = l .before .before .before .before .args in
+returns-2 : tie.Need-returns-2
+returns-2 c = let l = c .before .before in let a = l .before .before .args in
     via (λ (x : Loaded). touchesTable (firstFrom x 0) (a .at) (a .n)) (l .load .ensures) (c .enum-told .given .1)
-    ∙ sym (apart (l .before .before .overlaps .ensures) (l .before .if1 .left))
 
 pub touches-mib-spec : {M : Type 1} → statement M
 touches-mib-spec =
     tie.close
     (tie.spec
-    overlaps-requires
-    returns
     load-requires
     enum-known-w
     first-of-requires
     touches-table-requires
     enum-told
-    returns-2
-    returns-3)
+    returns
+    returns-2)
