@@ -1,5 +1,5 @@
-/* The checker's C functions. Link libwalk.a (`rt staticlib walk`) for the first, libffi.a (`rt staticlib ffi`) for the others; both
- * stand in target/staticlib/. A slice is a pointer and a length, in elements; slices that are written overlap no other. Every call is
+/* The checker's C functions. Link libwalk.a (`rt staticlib walk`) for the first, libffi.a (`rt staticlib ffi`) for the next two, and
+ * libreport_ffi.a (`rt staticlib report_ffi`) for the last; all stand in target/staticlib/. A slice is a pointer and a length, in elements; slices that are written overlap no other. Every call is
  * safe with every content and every length, and always returns. docs/RULES.md has the rules, docs/FORMATS.md what to do about a fault
  * or a refusal. */
 #ifndef WUZHAMBEN_H
@@ -63,5 +63,14 @@ uint64_t machine_start(const uint8_t *memory, size_t memory_length, uint32_t *tr
  * lengths. All three hold afterwards what the operation left; a refused one changes none of them. */
 uint64_t machine_step(const uint32_t *operation, size_t operation_length, uint32_t *registers, size_t registers_length,
                       uint8_t *memory, size_t memory_length, uint32_t *track, size_t track_length);
+
+/* The whole report of an image file with the bytes of `image` and of a list with the bytes of `list`: what the program prints. Returned is how long it
+ * is. `out` begins with the report and is otherwise as it was; `image` and `track` hold memory and track after the last operation. Where `out` has
+ * less than WUZHAMBEN_REPORT_LIMIT bytes, or `track` other than WUZHAMBEN_REPORT_TRACK words, nothing is done, and WUZHAMBEN_NO_CALL is returned, or
+ * WUZHAMBEN_NO_CALL + 1. */
+#define WUZHAMBEN_REPORT_LIMIT 262272
+#define WUZHAMBEN_REPORT_TRACK 9216
+uint64_t list_report(uint8_t *image, size_t image_length, const uint8_t *list, size_t list_length, uint32_t *track,
+                     size_t track_length, uint8_t *out, size_t out_length);
 
 #endif

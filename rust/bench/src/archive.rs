@@ -1,6 +1,6 @@
 //! Archives that `rt staticlib` wrote, loaded while the program runs, so that two of them can be timed
 //! side by side.
-use calls::{Machine, MachineStart, MachineStep, Walk, WalkImage};
+use calls::{ListReport, Machine, MachineStart, MachineStep, Report, Walk, WalkImage};
 use std::ffi::{c_char, c_int, c_void, CStr, CString};
 use std::os::unix::ffi::OsStrExt;
 use std::path::Path;
@@ -95,6 +95,21 @@ pub unsafe fn machine(archive: &Path) -> io::Result<Machine> {
     }
 }
 
+/// The report of an archive.
+///
+/// # Safety
+/// As for `walk`.
+pub unsafe fn report(archive: &Path) -> io::Result<Report> {
+    // SAFETY: as for this function.
+    let library = unsafe { Library::load(archive)? };
+    let list_report = library.function(c"list_report")?;
+    // SAFETY: as in `walk`.
+    unsafe {
+        let list_report = mem::transmute::<*mut c_void, ListReport>(list_report);
+        Ok(Report::new(list_report))
+    }
+}
+
 #[cfg(test)]
 mod tests {
     use super::*;
@@ -144,6 +159,23 @@ mod tests {
     }
 
     #[test]
+    fn the_present_archive_reports_as_the_linked_one() {
+        // SAFETY: `rt staticlib report_ffi` wrote it.
+        let loaded = unsafe { report(&present("libreport_ffi.a")) }.expect("the archive");
+        let list = b"op,a,b,c\nread,1000,4,0\nwrite,404,4,4832\nread,1000,4,0\n";
+        let start = || {
+            let track = vec![0; calls::REPORT_TRACK];
+            (image_a(), track, vec![0; calls::REPORT_BUFFER])
+        };
+        let (mut ours, mut theirs) = (start(), start());
+        let (image, track, out) = &mut ours;
+        let found = loaded.report(image, list, track, out);
+        let (image, track, out) = &mut theirs;
+        assert_eq!(found, calls::report(image, list, track, out));
+        assert!(ours == theirs, "they leave other buffers");
+    }
+
+    #[test]
     fn an_archive_without_the_functions_is_an_error() {
         let (of_walk, of_machine) = (present("libwalk.a"), present("libffi.a"));
         let missing = PathBuf::from("no-such-archive");
@@ -151,6 +183,7 @@ mod tests {
         unsafe {
             assert!(walk(&of_machine).is_err());
             assert!(machine(&of_walk).is_err());
+            assert!(report(&of_walk).is_err());
             assert!(walk(&missing).is_err());
             assert!(machine(&missing).is_err());
         }

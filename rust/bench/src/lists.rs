@@ -80,19 +80,15 @@ fn lists() -> Vec<List> {
 /// The ways to note the rows that the plain program has, by the argument that asks for each.
 pub const WAYS: [(&str, rival::Note); 2] = [("by-page", rival::by_page), ("by-mib", rival::by_mib)];
 
-/// This program as the plain one, to be run on a list in a folder with an image.
-pub fn rival_command(way: &str, list: &Path, folder: &Path) -> Command {
-    let mut command = Command::new(env::current_exe().expect("this program has a path"));
-    command
+fn rival(way: &str, list: &Path, folder: &Path) -> Vec<u8> {
+    let program = env::current_exe().expect("this program has a path");
+    let output = Command::new(program)
         .arg(way)
         .current_dir(folder)
-        .stdin(fs::File::open(list).expect("the list"));
-    command
-}
-
-fn rival(way: &str, list: &Path, folder: &Path) -> Vec<u8> {
-    let output = rival_command(way, list, folder).output();
-    output.expect("rival runs").stdout
+        .stdin(fs::File::open(list).expect("the list"))
+        .output()
+        .expect("rival runs");
+    output.stdout
 }
 
 pub fn reports() {

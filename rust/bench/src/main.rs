@@ -3,7 +3,7 @@
 //!     bench                        walks and lists
 //!     bench walks BEFORE AFTER     the walks of two archives of the C function, taken in turn
 //!     bench accesses BEFORE AFTER  the same of single accesses, through the machine's C functions
-//!     bench runs BEFORE            the longest lists, by the program of an earlier commit too
+//!     bench runs BEFORE AFTER      the same of the longest lists, through the report's C function
 //!     bench by-page, bench by-mib  the plain program that notes the rows in this way
 mod accesses;
 mod archive;
@@ -17,7 +17,7 @@ use std::path::Path;
 use std::{env, io};
 
 const USAGE: &str =
-    "usage: bench [walks BEFORE AFTER | accesses BEFORE AFTER | runs BEFORE | by-page | by-mib]";
+    "usage: bench [walks BEFORE AFTER | accesses BEFORE AFTER | runs BEFORE AFTER | by-page | by-mib]";
 
 fn main() -> io::Result<()> {
     let words: Vec<String> = env::args().skip(1).collect();
@@ -33,7 +33,7 @@ fn main() -> io::Result<()> {
         ["accesses", before, after] => {
             accesses::against_before(Path::new(before), Path::new(after))
         }
-        ["runs", before] => runs::against_before(Path::new(before)),
+        ["runs", before, after] => runs::against_before(Path::new(before), Path::new(after)),
         [asked] => {
             let way = lists::WAYS.iter().find(|(name, _)| *name == asked);
             let (_, note) = way.ok_or_else(|| io::Error::other(USAGE))?;

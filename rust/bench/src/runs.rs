@@ -1,19 +1,18 @@
-//! The longest lists, through `replay`, through the `replay` of an earlier commit and through the
-//! plain program, the start of a process left out.
+//! The longest lists, by the C function of the report, present and of an earlier commit, and by the
+//! plain program's own function, in one process.
+use crate::archive;
 use crate::images::{image_a_mixed, image_of_sections, image_of_tables, NG_PAGE};
-use crate::lists::{op, rival_command, WAYS};
+use crate::lists::op;
 use crate::timing::shortest;
+use calls::{Report, REPORT_BUFFER, REPORT_TRACK};
 use model::generate;
 use model::machine::{Kind, Operation};
-use programs::Folder;
-use std::fs::{self, File};
 use std::io;
-use std::path::{Path, PathBuf};
-use std::process::{Command, Stdio};
+use std::path::Path;
 use std::time::Duration;
 
-/// How many runs of each program are timed.
-const RUNS: usize = 200;
+/// How many runs of each are timed.
+const RUNS: usize = 100;
 
 /// The most bytes of a list.
 const LIST: usize = 65_536;
@@ -27,14 +26,19 @@ struct Place {
 
 fn places() -> [Place; 3] {
     let place = |name, image, data| Place { name, image, data };
+    let tables = image_of_tables([NG_PAGE, 0]);
     [
-        place("image A", image_a_mixed(), 0x1000),
         place(
-            "all 1,024 pages mapped by tables",
-            image_of_tables([NG_PAGE, 0]),
+            "Image A, of which two pages are mapped",
+            image_a_mixed(),
+            0x1000,
+        ),
+        place("All 1,024 pages mapped by four tables", tables, 0x2000),
+        place(
+            "All 1,024 pages mapped by four sections",
+            image_of_sections(),
             0x2000,
         ),
-        place("four sections", image_of_sections(), 0x2000),
     ]
 }
 
@@ -54,7 +58,7 @@ fn page_flush(data: u32, i: u32) -> Operation {
     }
 }
 
-/// A store to a level-two word of one of 64 pages, none of which is accessed, after 99 data stores.
+/// 99 data stores, then one to a word of a table, of one of 64 pages that are not accessed; and so on.
 fn mixed(data: u32, i: u32) -> Operation {
     if i % 100 < 99 {
         return store(data, i);
@@ -70,7 +74,7 @@ const LISTS: [(&str, Make); 4] = [
     ("data stores", store),
     ("reads", read),
     ("page flushes", page_flush),
-    ("data stores, 1 in 100 a descriptor store", mixed),
+    ("data stores, 1 in 100 a store to a table", mixed),
 ];
 
 /// The most such operations that fit into a list, and the list.
@@ -83,84 +87,71 @@ fn longest(make: Make, data: u32) -> (usize, Vec<u8>) {
     (most, generate::text(&operations[..most]))
 }
 
-/// A list in a folder with an image, and the program of an earlier commit.
-struct Trial<'a> {
-    before: &'a Path,
-    folder: &'a Path,
-    list: PathBuf,
+/// Buffers for reports, which are used again.
+struct Buffers {
+    track: Vec<u32>,
+    out: Vec<u8>,
 }
 
-impl Trial<'_> {
-    /// A program on the list: after, before, page by page, MiB by MiB.
-    fn command(&self, which: usize) -> Command {
-        let mut command = match which {
-            0 => programs::program("replay", self.folder),
-            1 => programs::program_at(self.before, self.folder),
-            _ => return rival_command(WAYS[which - 2].0, &self.list, self.folder),
-        };
-        command.stdin(File::open(&self.list).expect("the list"));
-        command
+impl Buffers {
+    fn new() -> Buffers {
+        Buffers {
+            track: vec![0; REPORT_TRACK],
+            out: vec![0; REPORT_BUFFER],
+        }
     }
 
-    /// Runs one of them, and throws its report away.
-    fn run(&self, which: usize) {
-        let mut command = self.command(which);
-        let status = command.stdout(Stdio::null()).status().expect("it runs");
-        assert!(status.success(), "{status}");
-    }
-
-    /// The time of each. All have to print the same.
-    fn times(&self) -> [Duration; 4] {
-        let report = |which| self.command(which).output().expect("it runs").stdout;
-        let same = (1..4).all(|which| report(which) == report(0));
-        assert!(same, "the reports differ");
-        shortest(
-            RUNS,
-            [
-                &mut || self.run(0),
-                &mut || self.run(1),
-                &mut || self.run(2),
-                &mut || self.run(3),
-            ],
-        )
+    /// The report of a list on a copy of an image.
+    fn report(&mut self, function: Report, image: &[u8], list: &[u8]) -> &[u8] {
+        let (track, out) = (&mut self.track, &mut self.out);
+        let length = function.report(&mut image.to_vec(), list, track, out);
+        &self.out[..length as usize]
     }
 }
 
-/// A row: the time of an operation, start left out, and how many times longer the others take.
-fn print_row(name: &str, operations: usize, starts: [Duration; 4], times: [Duration; 4]) {
-    let each = |i: usize| (times[i].as_secs_f64() - starts[i].as_secs_f64()) / operations as f64;
-    let nanoseconds = |i: usize| 1e9 * each(i);
-    print!("| {name} | {operations} | {:.0} ns |", nanoseconds(0));
-    for other in 1..4 {
-        let ratio = each(other) / each(0);
-        print!(" {:.0} ns | {ratio:.1} |", nanoseconds(other));
+/// The time of each: after, before, page by page, MiB by MiB. All have to report the same.
+fn times([after, before]: [Report; 2], image: &[u8], list: &[u8]) -> [Duration; 4] {
+    let plain = |note| rival::report(image.to_vec(), list, note);
+    let report = plain(rival::by_page);
+    assert!(report == plain(rival::by_mib), "the plain reports differ");
+    let (mut here, mut there) = (Buffers::new(), Buffers::new());
+    assert!(here.report(after, image, list) == report, "after differs");
+    assert!(
+        there.report(before, image, list) == report,
+        "before differs"
+    );
+    shortest(
+        RUNS,
+        [
+            &mut || assert!(!here.report(after, image, list).is_empty()),
+            &mut || assert!(!there.report(before, image, list).is_empty()),
+            &mut || drop(plain(rival::by_page)),
+            &mut || drop(plain(rival::by_mib)),
+        ],
+    )
+}
+
+/// A row: the time of an operation, and how many times as long the others take.
+fn print_row(name: &str, operations: usize, times: [Duration; 4]) {
+    let each = times.map(|time| 1e9 * time.as_secs_f64() / operations as f64);
+    print!("| {name} | {operations} | {:.0} ns |", each[0]);
+    for other in &each[1..] {
+        print!(" {other:.0} ns | {:.1} |", other / each[0]);
     }
     println!();
 }
 
-/// Each list on each image. The start is the time of the list of names alone on that image.
-pub fn against_before(before: &Path) -> io::Result<()> {
-    let before = &before.canonicalize()?;
+/// Each list on each image, start included, which is that of a list and not of a process.
+pub fn against_before(before: &Path, after: &Path) -> io::Result<()> {
+    // SAFETY: the command is given archives of `rt staticlib report_ffi`.
+    let functions = unsafe { [archive::report(after)?, archive::report(before)?] };
     for Place { name, image, data } in places() {
         println!("\n{name}:\n");
         println!("| list | operations | after | before | times | page by page | times | MiB by MiB | times |");
         println!("|---|---|---|---|---|---|---|---|---|");
-        let folder = Folder::with_image(Some(&image));
-        let folder = folder.path();
-        let trial = |text: &[u8]| {
-            let list = folder.join("list");
-            fs::write(&list, text).expect("the list");
-            let trial = Trial {
-                before,
-                folder,
-                list,
-            };
-            trial.times()
-        };
-        let starts = trial(&generate::text(&[]));
         for (what, make) in LISTS {
-            let (operations, text) = longest(make, data);
-            print_row(what, operations, starts, trial(&text));
+            let (operations, list) = longest(make, data);
+            print_row(what, operations, times(functions, &image, &list));
         }
     }
     Ok(())

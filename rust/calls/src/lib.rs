@@ -22,6 +22,16 @@ extern "C" {
         track: *mut u32,
         track_length: usize,
     ) -> u64;
+    fn list_report(
+        image: *mut u8,
+        image_length: usize,
+        list: *const u8,
+        list_length: usize,
+        track: *mut u32,
+        track_length: usize,
+        out: *mut u8,
+        out_length: usize,
+    ) -> u64;
 }
 
 /// The types of these functions, in their order.
@@ -38,6 +48,9 @@ pub type MachineStep = unsafe extern "C" fn(
     *mut u32,
     usize,
 ) -> u64;
+
+pub type ListReport =
+    unsafe extern "C" fn(*mut u8, usize, *const u8, usize, *mut u32, usize, *mut u8, usize) -> u64;
 
 /// The function of libwalk.a.
 #[derive(Clone, Copy)]
@@ -116,10 +129,47 @@ impl Machine {
     }
 }
 
+/// The function of libreport_ffi.a.
+#[derive(Clone, Copy)]
+pub struct Report(ListReport);
+
+/// The words of a report's track: 8 contexts, and the global row.
+pub const REPORT_TRACK: usize = 9216;
+
+/// The bytes of a buffer that every report fits into.
+pub const REPORT_BUFFER: usize = 262_272;
+
+impl Report {
+    /// # Safety
+    /// The function must be a `list_report` as include/wuzhamben.h describes it.
+    pub const unsafe fn new(list_report: ListReport) -> Report {
+        Report(list_report)
+    }
+
+    /// The report of an image and a list: its length, or `0x3_0000_0000` and more where there is none.
+    /// `image` and `track` hold memory and track afterwards, and `out` begins with the report.
+    pub fn report(&self, image: &mut [u8], list: &[u8], track: &mut [u32], out: &mut [u8]) -> u64 {
+        // SAFETY: as in `Machine::start`.
+        unsafe {
+            (self.0)(
+                image.as_mut_ptr(),
+                image.len(),
+                list.as_ptr(),
+                list.len(),
+                track.as_mut_ptr(),
+                track.len(),
+                out.as_mut_ptr(),
+                out.len(),
+            )
+        }
+    }
+}
+
 /// The functions that are linked.
-// SAFETY: `rt staticlib walk` and `rt staticlib ffi` wrote the archives that build.rs links.
+// SAFETY: `rt staticlib` wrote the archives that build.rs links.
 const WALK: Walk = unsafe { Walk::new(walk_image) };
 const MACHINE: Machine = unsafe { Machine::new(machine_start, machine_step) };
+const REPORT: Report = unsafe { Report::new(list_report) };
 
 /// `Walk::walk` of the function that is linked.
 pub fn walk(image: &[u8], root: u32, address: u32) -> u64 {
@@ -134,4 +184,9 @@ pub fn start(memory: &[u8], track: &mut [u32], root: u32, registers: &mut [u32])
 /// `Machine::step` of the functions that are linked.
 pub fn step(operation: &[u32], registers: &mut [u32], memory: &mut [u8], track: &mut [u32]) -> u64 {
     MACHINE.step(operation, registers, memory, track)
+}
+
+/// `Report::report` of the function that is linked.
+pub fn report(image: &mut [u8], list: &[u8], track: &mut [u32], out: &mut [u8]) -> u64 {
+    REPORT.report(image, list, track, out)
 }

@@ -83,19 +83,14 @@ pub fn command(name: &str) -> Command {
 
 /// A built program, to be run in `folder`.
 pub fn program(name: &str, folder: &Path) -> Command {
+    let tools = kit().join("on").join(env::consts::ARCH).join("toolchain");
+    let loader = tools.join("lib/ld-linux-x86-64.so.2");
+    let emulator = tools.join("bin/qemu-x86_64");
     let built = repository()
         .join("target/bin")
         .join(name)
         .canonicalize()
         .unwrap_or_else(|_| panic!("{name} is not built: run `rt check {name}`"));
-    program_at(&built, folder)
-}
-
-/// The program in this file, which a check has built, to be run in `folder`.
-pub fn program_at(built: &Path, folder: &Path) -> Command {
-    let tools = kit().join("on").join(env::consts::ARCH).join("toolchain");
-    let loader = tools.join("lib/ld-linux-x86-64.so.2");
-    let emulator = tools.join("bin/qemu-x86_64");
     let mut command = if emulator.is_file() {
         let mut command = Command::new(emulator);
         command.arg(loader);

@@ -42,11 +42,12 @@ loop-less : tie.Need-loop-less Inv-loop μ-loop
 loop-less c = omega arith
 
 loop-again : tie.Need-loop-again Inv-loop μ-loop
-loop-again c = let l = c .before .before .before in let a = l .before .before .args in
-    (omega arith,
-     sym (apart (c .before .touches-mib .ensures) (c .if1 .left))
-     ∙ sym (one-mib (now (a .m)) (a .root) (a .at) (a .n) (l .loop .i) (omega arith))
-     ∙ l .loop .inv .1)
+loop-again c = let l = c .before .before .before in let a = l .before .before .args in (
+  omega arith,
+  sym (apart (c .before .touches-mib .ensures) (c .if1 .left))
+      ∙ sym (one-mib (now (a .m)) (a .root) (a .at) (a .n) (l .loop .i) (omega arith))
+      ∙ l .loop .inv .1,
+)
 
 returns-2 : tie.Need-returns-2 Inv-loop μ-loop
 returns-2 c = let l = c .before in let a = l .before .before .args in

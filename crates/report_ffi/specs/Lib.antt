@@ -1,0 +1,2 @@
+-- What the C function of the report returns.
+pub mod Call
