@@ -1,7 +1,7 @@
 //! The longest lists, by the C function of the report, present and of an earlier commit, and by the
 //! plain program's own function, in one process.
 use crate::archive;
-use crate::images::{image_a_mixed, image_of_sections, image_of_tables, NG_PAGE};
+use crate::images::{image_a_mixed, image_of_sections, image_of_tables, NG_PAGE, NG_SECTION};
 use crate::lists::op;
 use crate::timing::shortest;
 use calls::{Report, REPORT_BUFFER, REPORT_TRACK};
@@ -17,69 +17,86 @@ const RUNS: usize = 100;
 /// The most bytes of a list.
 const LIST: usize = 65_536;
 
-/// An image, and an address from which on 256 bytes are plain data.
+/// An image, an address from which on 256 bytes are plain data, and stores to descriptors of pages
+/// that are not accessed.
 struct Place {
     name: &'static str,
     image: Vec<u8>,
     data: u32,
+    descriptor: fn(u32) -> Operation,
+}
+
+/// A store to the level-two word of one of 64 pages, from page 64 on.
+fn second(i: u32) -> Operation {
+    op(
+        Kind::Write,
+        0x500 + 4 * (i % 64),
+        4,
+        0x2032 + 0x1000 * (i % 4),
+    )
+}
+
+/// A store to the level-one word of the last MiB: a section, own and global in turn.
+fn first(i: u32) -> Operation {
+    op(Kind::Write, 0xC, 4, 0xC02 | (NG_SECTION * (i % 2)))
 }
 
 fn places() -> [Place; 3] {
-    let place = |name, image, data| Place { name, image, data };
-    let tables = image_of_tables([NG_PAGE, 0]);
+    let place = |name, image, data, descriptor| Place {
+        name,
+        image,
+        data,
+        descriptor,
+    };
+    let (a, tables, sections) = (
+        image_a_mixed(),
+        image_of_tables([NG_PAGE, 0]),
+        image_of_sections(),
+    );
     [
-        place(
-            "Image A, of which two pages are mapped",
-            image_a_mixed(),
-            0x1000,
-        ),
-        place("All 1,024 pages mapped by four tables", tables, 0x2000),
-        place(
-            "All 1,024 pages mapped by four sections",
-            image_of_sections(),
-            0x2000,
-        ),
+        place("Image A, of which two pages are mapped", a, 0x1000, second),
+        place("All pages mapped by four tables", tables, 0x2000, second),
+        place("All pages mapped by four sections", sections, 0x2000, first),
     ]
 }
 
-fn store(data: u32, i: u32) -> Operation {
-    op(Kind::Write, data + i % 256, 1, i % 16)
+fn store(place: &Place, i: u32) -> Operation {
+    op(Kind::Write, place.data + i % 256, 1, i % 16)
 }
 
-fn read(data: u32, i: u32) -> Operation {
-    op(Kind::Read, data + i % 256, 1, 0)
+fn read(place: &Place, i: u32) -> Operation {
+    op(Kind::Read, place.data + i % 256, 1, 0)
 }
 
 /// A flush of one page, in every context and in each of them in turn.
-fn page_flush(data: u32, i: u32) -> Operation {
+fn page_flush(place: &Place, i: u32) -> Operation {
     match i % 2 {
-        0 => op(Kind::Addr, data, 0, 0),
-        _ => op(Kind::AddrCtx, data, i / 2 % 8, 0),
+        0 => op(Kind::Addr, place.data, 0, 0),
+        _ => op(Kind::AddrCtx, place.data, i / 2 % 8, 0),
     }
 }
 
-/// 99 data stores, then one to a word of a table, of one of 64 pages that are not accessed; and so on.
-fn mixed(data: u32, i: u32) -> Operation {
-    if i % 100 < 99 {
-        return store(data, i);
+/// 99 data stores, then one to a descriptor, and so on.
+fn mixed(place: &Place, i: u32) -> Operation {
+    match i % 100 {
+        99 => (place.descriptor)(i / 100),
+        _ => store(place, i),
     }
-    let value = 0x2032 + 0x1000 * (i / 100 % 4);
-    op(Kind::Write, 0x500 + 4 * (i / 100 % 64), 4, value)
 }
 
-/// What a list does, told the address of its data and which of its operations it is.
-type Make = fn(u32, u32) -> Operation;
+/// What a list does, told which of its operations it is.
+type Make = fn(&Place, u32) -> Operation;
 
 const LISTS: [(&str, Make); 4] = [
     ("data stores", store),
     ("reads", read),
     ("page flushes", page_flush),
-    ("data stores, 1 in 100 a store to a table", mixed),
+    ("data stores, 1 in 100 to a descriptor", mixed),
 ];
 
 /// The most such operations that fit into a list, and the list.
-fn longest(make: Make, data: u32) -> (usize, Vec<u8>) {
-    let operations: Vec<Operation> = (0..8_000).map(|i| make(data, i)).collect();
+fn longest(make: Make, place: &Place) -> (usize, Vec<u8>) {
+    let operations: Vec<Operation> = (0..8_000).map(|i| make(place, i)).collect();
     let mut most = operations.len();
     while generate::text(&operations[..most]).len() > LIST {
         most -= 1;
@@ -145,13 +162,13 @@ fn print_row(name: &str, operations: usize, times: [Duration; 4]) {
 pub fn against_before(before: &Path, after: &Path) -> io::Result<()> {
     // SAFETY: the command is given archives of `rt staticlib report_ffi`.
     let functions = unsafe { [archive::report(after)?, archive::report(before)?] };
-    for Place { name, image, data } in places() {
-        println!("\n{name}:\n");
+    for place in places() {
+        println!("\n{}:\n", place.name);
         println!("| list | operations | after | before | times | page by page | times | MiB by MiB | times |");
         println!("|---|---|---|---|---|---|---|---|---|");
         for (what, make) in LISTS {
-            let (operations, list) = longest(make, data);
-            print_row(what, operations, times(functions, &image, &list));
+            let (operations, list) = longest(make, &place);
+            print_row(what, operations, times(functions, &place.image, &list));
         }
     }
     Ok(())
