@@ -1,6 +1,6 @@
-//! A straightforward program that does what `replay` does, the same way: it re-reads every page
-//! after each operation. How the rows are noted is a parameter: page by page, as anyone would write it
-//! first, or MiB by MiB, which is the idea of `replay`. The benchmarks time them side by side.
+//! A straightforward program that reports what `replay` does: it re-reads every page after each
+//! operation. How the rows are noted is a parameter: page by page, as anyone would write it first, or
+//! MiB by MiB, which is the idea of `noting`. The benchmarks time them side by side.
 use std::fs;
 use std::io::{self, Read, Write};
 
