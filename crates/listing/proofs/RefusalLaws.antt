@@ -236,25 +236,45 @@ three-zeros false y z = refl
 abbrev notZero : Kind → List (List ℕ) → Bool
 notZero k fs = any (λ i. not (same (field i fs) zeroText)) (unused k)
 
+-- the fields of a line behind the first n of a, b and c
+abbrev behind : ℕ → List ℕ
+behind zero = 1 ∷ 2 ∷ 3 ∷ []
+behind (suc zero) = 2 ∷ 3 ∷ []
+behind (suc (suc zero)) = 3 ∷ []
+behind (suc (suc (suc n))) = []
+
+-- the fields that an operation does not use are those behind the ones that it uses
+unused-behind : (k : Kind) → unused k ≡ behind (used k)
+unused-behind Read = refl
+unused-behind Write = refl
+unused-behind Root = refl
+unused-behind Asid = refl
+unused-behind Mode = refl
+unused-behind All = refl
+unused-behind Addr = refl
+unused-behind Ctx = refl
+unused-behind AddrCtx = refl
+unused-behind Fetch = refl
+unused-behind Domain = refl
+
 module _ (o a b c : List ℕ) where
   abbrev four : List (List ℕ)
   four = o ∷ a ∷ b ∷ c ∷ []
 
+  -- the fields behind the first n
+  behind-same : (n : ℕ) →
+      cond (cond (ltb 0 n) true (same a zeroText)) (cond (cond (ltb 1 n) true (same b zeroText)) (cond (ltb 2 n) true (same c zeroText)) false) false
+      ≡ not (any (λ i. not (same (field i four) zeroText)) (behind n))
+  unfolding any
+  behind-same zero = three-zeros (same a zeroText) (same b zeroText) (same c zeroText)
+  behind-same (suc zero) = two-zeros (same b zeroText) (same c zeroText)
+  behind-same (suc (suc zero)) = one-zero (same c zeroText)
+  behind-same (suc (suc (suc n))) = rw (lt-ltb 0 (suc (suc (suc n))) (omega arith), lt-ltb 1 (suc (suc (suc n))) (omega arith), lt-ltb 2 (suc (suc (suc n))) (omega arith))
+
   unused-same : (k : Kind) →
       cond (cond (ltb 0 (used k)) true (same a zeroText)) (cond (cond (ltb 1 (used k)) true (same b zeroText)) (cond (ltb 2 (used k)) true (same c zeroText)) false) false
       ≡ not (notZero k four)
-  unfolding any
-  unused-same Read = one-zero (same c zeroText)
-  unused-same Write = refl
-  unused-same Root = two-zeros (same b zeroText) (same c zeroText)
-  unused-same Asid = two-zeros (same b zeroText) (same c zeroText)
-  unused-same Mode = two-zeros (same b zeroText) (same c zeroText)
-  unused-same All = three-zeros (same a zeroText) (same b zeroText) (same c zeroText)
-  unused-same Addr = two-zeros (same b zeroText) (same c zeroText)
-  unused-same Ctx = two-zeros (same b zeroText) (same c zeroText)
-  unused-same AddrCtx = one-zero (same c zeroText)
-  unused-same Fetch = two-zeros (same b zeroText) (same c zeroText)
-  unused-same Domain = two-zeros (same b zeroText) (same c zeroText)
+  unused-same k = behind-same (used k) ∙ ap (λ (l : List ℕ). not (any (λ i. not (same (field i four) zeroText)) l)) (sym (unused-behind k))
 
 -- an operation's own name is known, and tells which of its fields are unused
 module _ (a b c : List ℕ) where

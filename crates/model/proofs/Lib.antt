@@ -16,6 +16,7 @@ pub mod OddWords
 pub mod Instance
 pub mod Kept
 pub mod Chips
+pub mod Moves
 pub mod ThirdDemand
 pub mod Pinned
 pub mod Refuted

@@ -25,6 +25,7 @@ use Rattle.model.specs.Types.{Operation, Kind, Read, Write, Entry}
 use Rattle.model.proofs.BoolLaws.{and-both}
 use Rattle.model.proofs.Instance.{asWalk, ofWalk, of-as, pageOf, walkOf, carryOf, tables, replyOf, stateOf, callOf, checker as theory, tlbOf, outcome-page, carry-plain, access-parts}
 use Rattle.model.proofs.Kept.{begins, carries, keeps}
+use Rattle.model.proofs.Moves.{moves-in-turn}
 use Rattle.model.proofs.Chips.{held, HoldsIn, tlb-laws}
 
 -- ── The checker's run ──
@@ -81,7 +82,7 @@ plain-trace s (x ∷ xs) =
 moves-same : (n : ℕ) (s : State) (ps : Places) (ms : List Move) → movesOf tables (tlbOf n) s ps ms ≡ moves s ps ms
 unfolding movesOf moves
 moves-same n s ps [] = refl
-moves-same n s ps (m ∷ ms) = moves-same n s (move s ps m) ms
+moves-same n s ps (m ∷ ms) = moves-same n s (move s ps m) ms ∙ sym (moves-in-turn s ps (m ∷ []) ms)
 
 through-same : (s : State) (ps : Places) (a : ℕ) →
     ofWalk (asWalk (orWalk (heldFor (s .registers .context) (a / pageSize) ps) (outcome s (a / pageSize * pageSize)))) ≡ chipOutcome s ps a

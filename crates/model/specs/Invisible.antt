@@ -6,11 +6,11 @@ use mathlib.Core.Bool.{Bool, true, false, _&&_, _||_}
 use mathlib.Core.List.{List, [], _∷_, _++_, map}
 use mathlib.Core.Option.{Option, none, some}
 use lib.Dec.{eqb}
-use lib.ListN.{length, getD}
+use lib.ListN.{length, getD, replicate}
 use Rattle.model.specs.Limits.{pageSize, rowSize}
 use Rattle.model.specs.Numbers.{Result, ok, fault, refused, shown}
-use Rattle.model.specs.reference.Rules.{Translation, found, failed, State, fresh, effect, outcome, aligned, among, accessSize, Scope, global, Held, Places, heldScope, matches, Move, drop, load, move, chipOutcome}
-use Rattle.model.specs.reference.Runs.{last, Checker, next, checkerRun, isRefused, seen, told, plainRun, Moment, chipStart, chipRun, chipSeen, Holds}
+use Rattle.model.specs.reference.Rules.{Translation, found, failed, State, fresh, effect, outcome, aligned, among, accessSize, Scope, global, Held, Places, heldScope, matches, Move, drop, load, move, moves, chipOutcome, flushPlace}
+use Rattle.model.specs.reference.Runs.{last, Checker, next, checkerRun, isRefused, seen, told, plainRun, Moment, chipStart, chipNext, chipRun, chipSeen, Holds}
 use Rattle.model.specs.step.Machine.{After, started, stepped}
 use Rattle.model.specs.Types.{Operation, Read, Write, Fetch, Entry}
 
@@ -120,6 +120,15 @@ pub record Pinned : Type 0 where
   -- a drop empties its place and no other
   pub drops : (s : State) (ps : Places) (i : ℕ) → getD (move s ps (drop i)) i none ≡ none
   pub dropsOnly : (s : State) (ps : Places) (i j : ℕ) → (j ≡ i → ⊥) → getD (move s ps (drop i)) j none ≡ getD ps j none
+  -- moves are made one after the other, as many as there are
+  pub noMove : (s : State) (ps : Places) → moves s ps [] ≡ ps
+  pub oneMove : (s : State) (ps : Places) (m : Move) → moves s ps (m ∷ []) ≡ move s ps m
+  pub inTurn : (s : State) (ps : Places) (ms ns : List Move) → moves s ps (ms ++ ns) ≡ moves s (moves s ps ms) ns
+  -- they are made before the first operation, with nothing held, after a refused operation, and after one carried out and its flush
+  pub movesAtFirst : (n : ℕ) (s : State) (ms : List Move) → chipStart n s ms .held ≡ moves s (replicate n none) ms
+  pub movesAfterRefused : (x : Moment) (o : Operation) (ms : List Move) → chipNext x o true ms .held ≡ moves (x .state) (x .held) ms
+  pub movesAfterCarried : (x : Moment) (o : Operation) (ms : List Move) →
+      chipNext x o false ms .held ≡ moves (chipNext x o false ms .state) (map (flushPlace o) (x .held)) ms
   -- never two places that match one page in one context, whichever it is, and never more places than n
   pub once : (n : ℕ) (s : State) (xs : List (Operation × Bool)) (first : List Move) (script : ℕ → List Move) (i j : ℕ) (h k : Held) (c p : ℕ) →
       getD (heldBy n s xs first script) i none ≡ some h → getD (heldBy n s xs first script) j none ≡ some k →
