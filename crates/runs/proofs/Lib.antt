@@ -1,4 +1,5 @@
 -- The theorems of the step for runs, and cases.
+pub mod Walks
 pub mod UsedLaws
 pub mod Stores
 pub mod Noted

@@ -4,9 +4,9 @@ use mathlib.Core.Path.{_≡_}
 use mathlib.Core.Logic.{_↔_}
 use mathlib.Core.Bool.{true, false}
 use mathlib.Core.List.{List}
-use lib.ListN.{length}
+use lib.ListN.{length, getD}
 use Rattle.model.specs.Limits.{addressLimit}
-use Rattle.model.specs.reference.Rules.{walk, stored, Scope, flushes}
+use Rattle.model.specs.reference.Rules.{found, walk, physical, stored, Scope, flushes}
 use Rattle.model.specs.reference.Runs.{Checker, next}
 use Rattle.model.specs.step.Memory.{bytesOf}
 use Rattle.model.specs.step.Track.{noteTrack}
@@ -14,12 +14,20 @@ use Rattle.model.specs.step.Machine.{After, sizeOf, accessAt, stepped, started}
 use Rattle.model.specs.Invisible.{Session, Accepted, checkerRunOf, atEnd, checker}
 use Rattle.model.specs.declared.Registers.{Registers}
 use Rattle.model.specs.declared.Operation.{Operation}
+use Rattle.model.specs.declared.Entry.{Entry}
 use Rattle.model.specs.declared.Kind.the-variants.{Write}
 use Rattle.model.specs.declared.Access.the-variants.{Physical}
 use Rattle.model.specs.declared.Purpose.the-variants.{ToWrite}
-use Rattle.runs.specs.Used.{Untouched}
+use Rattle.runs.specs.Used.{Used, Untouched, Reads}
 use Rattle.runs.specs.Quiet.{quiet}
 use Rattle.runs.specs.Step.{runStepped}
+
+-- A byte of memory is used exactly when the walk of some address of the window reads it; and a walk reads nothing else: in a memory of the
+-- same length that has the same bytes there it finds the same.
+pub record UsedByWalks : Type 0 where
+  pub exactly : (m : List ℕ) (root b : ℕ) → Used m root b ↔ ((a : ℕ) × (a < addressLimit) × Reads m root a b × (b < length m))
+  pub nothingElse : (m k : List ℕ) (root a : ℕ) → length k ≡ length m →
+      ((b : ℕ) → Reads m root a b → b < length m → getD k b 0 ≡ getD m b 0) → walk k root a ≡ walk m root a
 
 -- The test of a store in memory says that it is quiet exactly when it touches no used byte; and then the walk of every address of the
 -- window finds afterwards what it found before.
@@ -48,7 +56,13 @@ pub record SameRuns : Type 0 where
   -- after every operation of a run from an accepted start, to note the track again changes no word
   pub noted : (x : Session) → Accepted checker x →
       noteTrack (reached x .memory) (reached x .registers .root) (reached x .registers .context) (reached x .track) ≡ reached x .track
-  -- so a quiet store changes no track word,
+  -- so a store that touches no byte that a present walk uses changes no track word: a write, whatever becomes of it, through the entry that
+  -- its address has now
+  pub untouched : (x : Session) → Accepted checker x → (o : Operation) (e : Entry) → o .kind ≡ Write →
+      walk (reached x .memory) (reached x .registers .root) (o .a) ≡ found e →
+      Untouched (reached x .memory) (reached x .registers .root) (physical e (o .a)) (o .b) →
+      next checker o (reached x) .track ≡ reached x .track
+  -- the same of one that the test calls quiet,
   pub quietStore : (x : Session) → Accepted checker x → (o : Operation) (p : ℕ) → o .kind ≡ Write →
       accessAt (reached x .registers) (reached x .memory) (reached x .track) ToWrite (sizeOf (o .b)) (o .a) ≡ Physical p →
       quiet (reached x .memory) (reached x .registers .root) p (bytesOf (sizeOf (o .b))) ≡ true →

@@ -1,10 +1,10 @@
 -- Which bytes of memory present walks use, in the words of the rules.
-use Prim.Native.Nat.{ℕ, _+_, _*_, _/_, _≤_, _<_}
+use Prim.Native.Nat.{ℕ, _+_, _*_, _/_, _%_, _≤_, _<_}
 use mathlib.Core.Path.{_≡_}
 use mathlib.Core.Bool.{true}
 use mathlib.Core.List.{List}
 use lib.ListN.{length}
-use Rattle.model.specs.Limits.{addressLimit, sectionSize}
+use Rattle.model.specs.Limits.{addressLimit, pageSize, sectionSize}
 use Rattle.model.specs.reference.Rules.{inMemory, value, bits}
 
 -- how many level-one words the window has: one for each MiB below the limit of addresses
@@ -46,3 +46,17 @@ pub record Used (m : List ℕ) (root b : ℕ) : Type 0 where
 -- The n bytes from `at` on touch no used byte.
 abbrev pub Untouched : List ℕ → ℕ → ℕ → ℕ → Type 0
 Untouched m root at n = (b : ℕ) → Among at n b → Used m root b → ⊥
+
+-- ── The bytes that the walk of one address reads ──
+-- the level-one word of an address: where it stands, and what it says
+abbrev pub firstAddress : ℕ → ℕ → ℕ
+firstAddress root a = root + 4 * (a / sectionSize)
+
+abbrev pub firstSays : List ℕ → ℕ → ℕ → ℕ
+firstSays m root a = value m (firstAddress root a) 4
+
+-- The walk of an address reads its level-one word; and, where that lies in memory and points to a table, the level-two word there.
+pub data Reads (m : List ℕ) (root a b : ℕ) : Type 0 where
+  first : Among (firstAddress root a) 4 b → Reads m root a b
+  second : inMemory m (firstAddress root a) 4 ≡ true → bits 1 0 (firstSays m root a) ≡ 1 →
+      Among (bits 31 10 (firstSays m root a) * 1024 + 4 * (a / pageSize % 256)) 4 b → Reads m root a b
