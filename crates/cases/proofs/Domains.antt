@@ -233,7 +233,7 @@ own-domain m a w e q =
     ap (λ (x : Entry). x .domain) (let z : e ≡ withDomain e (domainOf w) = cc in z)
 
 -- a set with an entry that is not the present outcome makes its page stale in every context that uses it
-stale-by : (t : List ℕ) (u : Scope) (c p : ℕ) (e x : Entry) → covers u c ≡ true → kept u (trackWord t u p) ≡ one e → same e x ≡ false → stale t c p (found x) ≡ true
+pub stale-by : (t : List ℕ) (u : Scope) (c p : ℕ) (e x : Entry) → covers u c ≡ true → kept u (trackWord t u p) ≡ one e → same e x ≡ false → stale t c p (found x) ≡ true
 unfolding stale differs covers
 stale-by t (own k) c p e x h q f =
     let here : kept (own c) (trackWord t (own c) p) ≡ one e = ap (λ n. kept (own n) (trackWord t (own n) p)) (sym (eqb-true k c h)) ∙ q in

@@ -8,4 +8,5 @@ pub mod Demands
 pub mod RootChanges
 pub mod Invisible
 pub mod Domains
+pub mod Sections
 pub mod Wrong
