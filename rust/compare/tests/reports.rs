@@ -30,10 +30,36 @@ fn refused(n: u32) -> Answer {
     answer("refused", &format!("{n:x}"))
 }
 
+/// The fields that each operation does not use.
+const UNUSED: [(&str, &str); 11] = [
+    ("read", "c"),
+    ("write", ""),
+    ("root", "bc"),
+    ("asid", "bc"),
+    ("mode", "bc"),
+    ("all", "abc"),
+    ("addr", "bc"),
+    ("ctx", "bc"),
+    ("addrctx", "c"),
+    ("fetch", "bc"),
+    ("domain", "bc"),
+];
+
+/// The operation of a line, and the first of its unused fields that is not 0.
+fn first_unused(line: &str) -> Option<(&'static str, char)> {
+    let (name, fields) = line.split_once(',')?;
+    let (name, unused) = UNUSED.into_iter().find(|(other, _)| *other == name)?;
+    let mut fields = "abc".chars().zip(fields.split(','));
+    let (letter, _) = fields.find(|(letter, field)| unused.contains(*letter) && *field != "0")?;
+    Some((name, letter))
+}
+
 /// What the lines of reports said.
 #[derive(Default)]
 struct Seen {
     all: Tally<Answer>,
+    /// Of lines that were turned back by 6.
+    unused: Tally<(&'static str, char)>,
     fetches: Tally<Answer>,
     domains: Tally<Answer>,
     /// Of `root`, and whether the context was 0.
@@ -42,7 +68,7 @@ struct Seen {
 
 impl Seen {
     /// Adds the report of a list. Under another context than 0 a root is refused, and nothing else
-    /// is refused by 20.
+    /// is refused by 20. What 6 turns back has an unused field that is not 0.
     fn add(&mut self, list: &[u8], report: &str) {
         let list = String::from_utf8_lossy(list);
         let mut lines = list.lines().skip(1);
@@ -59,6 +85,11 @@ impl Seen {
                 ("domain", _) => self.domains.add(answer.clone()),
                 ("root", _) => self.roots.add((in_0, answer.clone())),
                 ("asid", "ok") => in_0 = line == "asid,0,0,0",
+                ("-", _) if answer == refused(6) => {
+                    let field = first_unused(line);
+                    let field = field.unwrap_or_else(|| panic!("{line}: {said}"));
+                    self.unused.add(field);
+                }
                 _ => (),
             }
             self.all.add(answer);
@@ -72,6 +103,12 @@ impl Seen {
         };
         let refusals = (1..=17).filter(|n| *n != 14).chain([20]).map(refused);
         self.all.must_have("reports", faults().chain(refusals));
+        let unused = UNUSED.into_iter().flat_map(|(name, fields)| {
+            let pair = move |field| (name, field);
+            fields.chars().map(pair)
+        });
+        let what = "the first unused field that is not 0";
+        self.unused.must_have(what, unused);
         let ok = answer("ok", "");
         let others = [ok.clone(), refused(8), refused(16)];
         self.fetches.must_have("fetches", faults().chain(others));
@@ -87,7 +124,7 @@ impl Seen {
 #[test]
 fn reports() {
     let mut seen = Seen::default();
-    for (case, mut random) in cases(400) {
+    for (case, mut random) in cases(500) {
         let (list, report) = compared(case, &mut random);
         seen.add(&list, &report);
     }

@@ -435,12 +435,17 @@ pub fn damaged(random: &mut Random, contexts: u32, mut o: Operation) -> Operatio
     o
 }
 
+/// The line of an operation.
+fn line(o: Operation) -> String {
+    let name = KINDS[o.kind as usize].1;
+    format!("{name},{:x},{:x},{:x}\n", o.a, o.b, o.c)
+}
+
 /// A list of operations as text.
 pub fn text(operations: &[Operation]) -> Vec<u8> {
     let mut list = String::from("op,a,b,c\n");
     for o in operations {
-        let name = KINDS[o.kind as usize].1;
-        list.push_str(&format!("{name},{:x},{:x},{:x}\n", o.a, o.b, o.c));
+        list.push_str(&line(*o));
     }
     list.into_bytes()
 }
@@ -476,6 +481,39 @@ pub fn damage(random: &mut Random, bytes: &mut Vec<u8>, at: usize, way: u64) {
     }
 }
 
+/// An operation with a field that it does not use, which is not 0; those before it that it does not
+/// use are 0.
+fn with_unused(random: &mut Random) -> Operation {
+    let unused: Vec<(Kind, usize, usize)> = KINDS
+        .iter()
+        .flat_map(|&(kind, _, used)| (used..3).map(move |field| (kind, used, field)))
+        .collect();
+    let &(kind, used, field) = random.pick(&unused);
+    let any = random.word();
+    let mut fields = [0; 3];
+    for value in &mut fields[..used] {
+        *value = *random.pick(&[0, 1, 4, 0x1000]);
+    }
+    fields[field] = *random.pick(&[1, 2, 4, 7, 0x1000, 1 << 31, u32::MAX, any.max(1)]);
+    if random.one_in(4) {
+        fields[field + 1..].fill(any);
+    }
+    let [a, b, c] = fields;
+    op(kind, a, b, c)
+}
+
+/// Puts the line of such an operation into a list: often at its end, else before any of its lines
+/// behind the names.
+fn insert_unused(random: &mut Random, list: &mut Vec<u8>) {
+    let starts: Vec<usize> = (1..=list.len()).filter(|i| list[i - 1] == b'\n').collect();
+    let at = if random.one_in(2) {
+        list.len()
+    } else {
+        *random.pick(&starts)
+    };
+    list.splice(at..at, line(with_unused(random)).bytes());
+}
+
 /// A list for the program, which has 8 contexts, and sometimes something wrong with its bytes.
 pub fn list(random: &mut Random, memory: u32) -> Vec<u8> {
     let length = random.below(120);
@@ -494,9 +532,10 @@ pub fn list(random: &mut Random, memory: u32) -> Vec<u8> {
     // The line of names has 9 bytes.
     let within = if random.one_in(6) { 9 } else { bytes.len() };
     let at = random.below(within as u64) as usize;
-    match random.below(17) {
+    match random.below(20) {
         5 => bytes.resize(65_537 + random.below(3) as usize, b'\n'),
         6 => rename(random, &mut bytes),
+        7..=13 => insert_unused(random, &mut bytes),
         way => damage(random, &mut bytes, at, way),
     }
     bytes

@@ -176,8 +176,9 @@ fn a_list_at_its_limit() {
     assert_eq!(lines(&format!("{most}x")), "1,-,refused,1\n");
 }
 
-/// Lines that are turned back, and by which number.
-const TURNED_BACK: [(&str, u32); 38] = [
+/// Lines that are turned back, and by which number. For each operation and each field that it does not
+/// use there is a line in which that field alone is wrong.
+const TURNED_BACK: [(&str, u32); 50] = [
     ("read,1000,4", 3),
     ("read,1000,4,0,0", 3),
     ("", 3),
@@ -189,9 +190,6 @@ const TURNED_BACK: [(&str, u32); 38] = [
     ("Read,XX,4,0", 4),
     ("Read,1000,4,0", 5),
     (",0,0,0", 5),
-    ("read,1000,4,1", 6),
-    ("all,1,0,0", 6),
-    ("addrctx,1000,0,1", 6),
     ("fetch,1000,0", 3),
     ("fetch,1000,0,0,0", 3),
     ("fetch,,0,0", 4),
@@ -201,8 +199,6 @@ const TURNED_BACK: [(&str, u32); 38] = [
     ("Fetch,1000,0,0", 5),
     ("fetch ,1000,0,0", 5),
     ("addrctxfetch,1000,0,0", 5),
-    ("fetch,1000,4,0", 6),
-    ("fetch,1000,0,1", 6),
     ("domain,0,0", 3),
     ("domain,0,0,0,0", 3),
     ("domain,,0,0", 4),
@@ -213,8 +209,25 @@ const TURNED_BACK: [(&str, u32); 38] = [
     ("Domain,0,0,0", 5),
     (" domain,0,0,0", 5),
     ("fetchdomain,0,0,0", 5),
-    ("domain,0,1,0", 6),
-    ("domain,0,0,1", 6),
+    ("read,1000,4,1", 6),
+    ("root,80,1,0", 6),
+    ("root,80,0,1", 6),
+    ("asid,1,1,0", 6),
+    ("asid,1,0,1", 6),
+    ("mode,1,1,0", 6),
+    ("mode,1,0,1", 6),
+    ("all,1,0,0", 6),
+    ("all,0,1,0", 6),
+    ("all,0,0,1", 6),
+    ("addr,1000,1,0", 6),
+    ("addr,1000,0,1", 6),
+    ("ctx,1,1,0", 6),
+    ("ctx,1,0,1", 6),
+    ("addrctx,1000,1,1", 6),
+    ("fetch,1000,4,0", 6),
+    ("fetch,1000,0,1", 6),
+    ("domain,1,1,0", 6),
+    ("domain,1,0,1", 6),
     ("domain,2,1,0", 6),
 ];
 
@@ -227,4 +240,40 @@ fn each_list_refusal_ends_the_report() {
     }
     let unended = format!("{NAMES}mode,0,0,0\nmode,0,0,0");
     assert_eq!(lines(&unended), "2,mode,ok,0\n3,-,refused,3\n");
+}
+
+/// Lines that are read, and what is answered: each operation with each field that it uses nonzero,
+/// small and as large as can be. What is refused here is refused by the machine.
+const READ: [(&str, &str); 21] = [
+    ("read,1000,4,0", "ok,12345678"),
+    ("read,ffffffff,ffffffff,0", "refused,7"),
+    ("write,1000,4,1", "ok,0"),
+    ("write,ffffffff,ffffffff,ffffffff", "refused,7"),
+    ("root,80,0,0", "ok,0"),
+    ("root,ffffffff,0,0", "refused,a"),
+    ("asid,1,0,0", "ok,0"),
+    ("asid,ffffffff,0,0", "refused,b"),
+    ("mode,1,0,0", "ok,0"),
+    ("mode,ffffffff,0,0", "refused,c"),
+    ("all,0,0,0", "ok,0"),
+    ("addr,1000,0,0", "ok,0"),
+    ("addr,ffffffff,0,0", "refused,8"),
+    ("ctx,1,0,0", "ok,0"),
+    ("ctx,ffffffff,0,0", "refused,b"),
+    ("addrctx,1000,1,0", "ok,0"),
+    ("addrctx,ffffffff,ffffffff,0", "refused,8"),
+    ("fetch,1000,0,0", "ok,12345678"),
+    ("fetch,ffffffff,0,0", "refused,8"),
+    ("domain,1,0,0", "ok,0"),
+    ("domain,ffffffff,0,0", "ok,0"),
+];
+
+#[test]
+fn used_fields_are_read() {
+    for (line, answer) in READ {
+        let (name, _) = line.split_once(',').expect("a line has fields");
+        let list = format!("{NAMES}mode,0,0,0\n{line}\nmode,0,0,0\n");
+        let report = format!("2,mode,ok,0\n3,{name},{answer}\n4,mode,ok,0\n");
+        assert_eq!(lines(&list), report, "{line}");
+    }
 }
