@@ -8,6 +8,10 @@
 #include <stddef.h>
 #include <stdint.h>
 
+#ifdef __cplusplus
+extern "C" {
+#endif
+
 /* An answer is a value of 32 bits, WUZHAMBEN_FAULT plus a fault's status code, or WUZHAMBEN_REFUSAL plus the number of a refusal.
  * WUZHAMBEN_NO_CALL says that the words handed over are no operation or no registers; nothing was done. */
 #define WUZHAMBEN_FAULT UINT64_C(0x100000000)
@@ -72,5 +76,9 @@ uint64_t machine_step(const uint32_t *operation, size_t operation_length, uint32
 #define WUZHAMBEN_REPORT_TRACK 9216
 uint64_t list_report(uint8_t *image, size_t image_length, const uint8_t *list, size_t list_length, uint32_t *track,
                      size_t track_length, uint8_t *out, size_t out_length);
+
+#ifdef __cplusplus
+}
+#endif
 
 #endif
