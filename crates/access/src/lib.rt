@@ -2,6 +2,9 @@
 ghost use mathlib.Core.Path.{_≡_};
 ghost use mathlib.Core.Bool.{cond};
 ghost use lib.Dec.{eqb};
+ghost use Rattle.model.specs.Numbers.{faultNumber, accessResult};
+ghost use Rattle.model.specs.Telling.{Tells};
+ghost use Rattle.model.specs.step.Memory.{bytesOf};
 ghost use Rattle.model.specs.step.Rights.{fieldAt};
 ghost use Rattle.model.specs.step.Machine.{sizeOf, permissionFaultOf, domainFaultOf, reached, granted, decided, accessAt};
 use model::Access;
@@ -31,7 +34,7 @@ pub fn field_of(domains: u32, domain: u32) -> u32
 
 // The size that a field names, where it names one.
 pub fn size_of(b: u32) -> Size
-    ensures { λ r. ⌜ r ≡ sizeOf b ⌝ }
+    ensures { λ r. ⌜ Tells bytesOf (sizeOf b) r ⌝ }
 {
     if b == 1 {
         return Size::One;
@@ -54,21 +57,21 @@ fn by_level(e: Entry, section: Fault, page: Fault) -> Fault
 
 // The permission fault of an access through this entry.
 pub fn permission_fault(e: Entry) -> Fault
-    ensures { λ r. ⌜ r ≡ permissionFaultOf e ⌝ }
+    ensures { λ r. ⌜ Tells faultNumber (permissionFaultOf e) r ⌝ }
 {
     by_level(e, Fault::SectionPermission, Fault::PagePermission)
 }
 
 // The domain fault of an access through this entry.
 pub fn domain_fault(e: Entry) -> Fault
-    ensures { λ r. ⌜ r ≡ domainFaultOf e ⌝ }
+    ensures { λ r. ⌜ Tells faultNumber (domainFaultOf e) r ⌝ }
 {
     by_level(e, Fault::SectionDomain, Fault::PageDomain)
 }
 
 // An access through an entry, of which this is said: a fault, or the bytes.
 pub fn reach(x: Ruling, e: Entry, size: Size, a: u32, m: &[u8]) -> Access
-    ensures { λ r. ⌜ r ≡ reached x e size a (now (m .entry)) ⌝ }
+    ensures { λ r. ⌜ Tells accessResult (reached x e size a (now (m .entry))) r ⌝ }
 {
     let at = e.frame as usize * 4096 + a as usize % 4096; // pageSize
     let found = memory::inside(m, at, size);
@@ -88,7 +91,7 @@ pub fn reach(x: Ruling, e: Entry, size: Size, a: u32, m: &[u8]) -> Access
 
 // An access to a page with this outcome: domain and permission, then the bytes.
 pub fn grant(o: Outcome, r: Registers, purpose: Purpose, size: Size, a: u32, m: &[u8]) -> Access
-    ensures { λ x. ⌜ x ≡ granted o r purpose size a (now (m .entry)) ⌝ }
+    ensures { λ x. ⌜ Tells accessResult (granted o r purpose size a (now (m .entry))) x ⌝ }
 {
     match o {
         Outcome::Failed(f) => Access::Fails(f),
@@ -110,7 +113,7 @@ pub fn decide(
     a: u32,
     m: &[u8],
 ) -> Access
-    ensures { λ x. ⌜ x ≡ decided o stale r purpose size a (now (m .entry)) ⌝ }
+    ensures { λ x. ⌜ Tells accessResult (decided o stale r purpose size a (now (m .entry))) x ⌝ }
 {
     let n = memory::bytes(size);
     let rest = a as usize % n;
@@ -125,7 +128,7 @@ pub fn decide(
 
 // What an access comes to.
 pub fn access_at(r: Registers, m: &[u8], t: &[u32], purpose: Purpose, size: Size, a: u32) -> Access
-    ensures { λ x. ⌜ x ≡ accessAt r (now (m .entry)) (now (t .entry)) purpose size a ⌝ }
+    ensures { λ x. ⌜ Tells accessResult (accessAt r (now (m .entry)) (now (t .entry)) purpose size a) x ⌝ }
 {
     let page = a as usize / 4096; // pageSize
     let o = walk::walk(m, r.root, page);

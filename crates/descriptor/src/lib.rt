@@ -1,6 +1,9 @@
 // Descriptors: what a word of a level-one or a level-two table says of a page.
 ghost use mathlib.Core.Path.{_≡_};
+ghost use Rattle.model.specs.Numbers.{firstFault};
+ghost use Rattle.model.specs.Telling.{Tells};
 ghost use Rattle.model.specs.step.Walk.{firstDomain, sectionEntry, largeEntry, smallEntry, firstOf, secondOf};
+ghost use Rattle.model.specs.step.WalkAnswer.{outcomeNumber};
 use model::Entry;
 use model::Fault;
 use model::FirstLevel;
@@ -58,7 +61,7 @@ pub fn small_entry(w: u32, domain: u32) -> Entry
 
 // What a level-one word says of a page.
 pub fn first_of(w: u32, page: usize) -> FirstLevel
-    ensures { λ r. ⌜ r ≡ firstOf w page ⌝ }
+    ensures { λ r. ⌜ Tells firstFault (firstOf w page) r ⌝ }
 {
     let kind = w % 4;
     if kind == 1 {
@@ -79,7 +82,7 @@ pub fn first_of(w: u32, page: usize) -> FirstLevel
 
 // What a level-two word says of a page, in a table of this domain.
 pub fn second_of(w: u32, page: usize, domain: u32) -> Outcome
-    ensures { λ r. ⌜ r ≡ secondOf w page domain ⌝ }
+    ensures { λ r. ⌜ Tells outcomeNumber (secondOf w page domain) r ⌝ }
 {
     let kind = w % 4;
     if kind == 0 {

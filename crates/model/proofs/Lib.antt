@@ -11,6 +11,7 @@ pub mod Words
 pub mod Track
 pub mod Effect
 pub mod Calls
+pub mod Tellings
 pub mod SingleWalk
 pub mod OddWords
 pub mod Instance

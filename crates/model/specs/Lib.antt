@@ -2,6 +2,7 @@
 pub mod Types
 pub mod Limits
 pub mod Numbers
+pub mod Telling
 pub mod reference
 pub mod step
 pub mod Demands

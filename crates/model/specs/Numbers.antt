@@ -1,7 +1,7 @@
 -- The numbers that the rules give to kinds, faults and refusals, and what an answer shows.
 use Prim.Native.Nat.{ℕ}
 use mathlib.Core.Option.{Option, none, some}
-use Rattle.model.specs.Types.{Kind, Read, Write, Root, Asid, Mode, All, Addr, Ctx, AddrCtx, Fetch, Domain, Fault, Alignment, FirstUnmapped, SecondUnmapped, SectionDomain, PageDomain, SectionPermission, PagePermission, FirstOutside, SecondOutside, AccessOutside, Refusal, WrongSize, WrongAddress, WrongValue, WrongRoot, WrongContext, WrongMode, WrongLengths, WrongRegisters, UserMode, StalePage, WrongDomains, NotContext0, Answer, Done, Faulted, Refused, Check, Pass, Refuse}
+use Rattle.model.specs.Types.{Kind, Read, Write, Root, Asid, Mode, All, Addr, Ctx, AddrCtx, Fetch, Domain, Fault, Alignment, FirstUnmapped, SecondUnmapped, SectionDomain, PageDomain, SectionPermission, PagePermission, FirstOutside, SecondOutside, AccessOutside, Refusal, WrongSize, WrongAddress, WrongValue, WrongRoot, WrongContext, WrongMode, WrongLengths, WrongRegisters, UserMode, StalePage, WrongDomains, NotContext0, Answer, Done, Faulted, Refused, Check, Pass, Refuse, FirstLevel, Failing, Table, Section, Access, Stale, Fails, Physical}
 
 -- the place of a kind in the rules' list of operations
 abbrev pub kindNumber : Kind → ℕ
@@ -59,3 +59,15 @@ shown (Refused r) = refused (refusalNumber r)
 abbrev pub checkNumber : Check → Option ℕ
 checkNumber Pass = none
 checkNumber (Refuse r) = some (refusalNumber r)
+
+-- the status code of a level-one word that maps nothing; none for a table or a section
+abbrev pub firstFault : FirstLevel → Option ℕ
+firstFault (Failing f) = some (faultNumber f)
+firstFault (Table p) = none
+firstFault (Section e) = none
+
+-- the result that an access ends with: refusal 16 of a stale page, or its fault; none where it reaches bytes, which has no result yet
+abbrev pub accessResult : Access → Option Result
+accessResult Stale = some (refused (refusalNumber StalePage))
+accessResult (Fails f) = some (fault (faultNumber f))
+accessResult (Physical p) = none

@@ -1,6 +1,7 @@
 // What access permissions and domains allow, computed from the rules, and the sheet of all 384 answers as text.
 ghost use mathlib.Core.Path.{_≡_};
 ghost use lib.ListN.{length};
+ghost use Rattle.model.specs.Telling.{Tells};
 ghost use Rattle.model.specs.step.Rights.{between, kernelRights, userRights, rightsOf, permitted, rulingOf};
 ghost use Rattle.permissions.specs.Sheet.{answer, answerAt, sheet};
 ghost use Rattle.permissions.specs.Places.{kindAt};
@@ -75,7 +76,7 @@ pub fn permitted(ap: u32, mode: u32, purpose: Purpose, xn: u32) -> bool
 
 // What is said of an access, by the field of the entry's domain: 3 allows everything, 1 what is permitted, and any other field nothing.
 pub fn by_rules(ap: u32, mode: u32, purpose: Purpose, field: u32, xn: u32) -> Ruling
-    ensures { λ r. ⌜ r ≡ rulingOf ap mode purpose field xn ⌝ }
+    ensures { λ r. ⌜ Tells answer (rulingOf ap mode purpose field xn) r ⌝ }
 {
     if field == 3 {
         return Ruling::Allowed;

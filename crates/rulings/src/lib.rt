@@ -4,8 +4,9 @@ ghost use mathlib.Core.Path.{_≡_};
 ghost use mathlib.Core.Bool.{true};
 ghost use Prim.Native.Nat.{_<_};
 ghost use lib.ListN.{length};
+ghost use Rattle.model.specs.Telling.{Tells};
 ghost use Rattle.model.specs.step.Rights.{rulingOf};
-ghost use Rattle.permissions.specs.Sheet.{answerAt};
+ghost use Rattle.permissions.specs.Sheet.{answer, answerAt};
 ghost use Rattle.permissions.specs.Places.{agree, kindPlace, placeOf};
 ghost use Rattle.rulings.specs.Ranges.{within, flag, told};
 use model::Purpose;
@@ -93,7 +94,7 @@ fn ruling_of(number: u8) -> Ruling
 // table answers for all numbers: AP from 8 on permits as little as AP 0, a mode other than 0 is the user's, a field from 4 on is closed as 0
 // is, and XN is set unless it is 0.
 pub fn rule(ap: u32, mode: u32, purpose: Purpose, field: u32, xn: u32) -> Ruling
-    ensures { λ r. ⌜ r ≡ rulingOf ap mode purpose field xn ⌝ }
+    ensures { λ r. ⌜ Tells answer (rulingOf ap mode purpose field xn) r ⌝ }
 {
     let ap_in = within(ap, 8);
     let mode_in = flag(mode);

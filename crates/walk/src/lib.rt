@@ -1,7 +1,8 @@
 // The walk of two-level tables in byte memory, and the same as a C function over an image.
 ghost use mathlib.Core.Path.{_≡_};
 ghost use Prim.Native.Nat.{_<_};
-ghost use Rattle.model.specs.Numbers.{faultNumber};
+ghost use Rattle.model.specs.Numbers.{faultNumber, firstFault};
+ghost use Rattle.model.specs.Telling.{Tells};
 ghost use Rattle.model.specs.step.Walk.{firstAt, secondAt, walkPage};
 ghost use Rattle.model.specs.step.WalkAnswer.{outcomeNumber, walkAnswer};
 ghost use Rattle.model.specs.step.Track.{entryWord};
@@ -38,7 +39,7 @@ pub fn fault_number(f: Fault) -> u32
 
 // What level one says of a page.
 pub fn level_one(m: &[u8], root: u32, page: usize) -> FirstLevel
-    ensures { λ r. ⌜ r ≡ firstAt (now (m .entry)) root page ⌝ }
+    ensures { λ r. ⌜ Tells firstFault (firstAt (now (m .entry)) root page) r ⌝ }
 {
     let at = root as usize + 4 * (page / 256);
     match load(m, at, Size::Four) {
@@ -49,7 +50,7 @@ pub fn level_one(m: &[u8], root: u32, page: usize) -> FirstLevel
 
 // What a table says of a page.
 pub fn level_two(m: &[u8], table: Pointer, page: usize) -> Outcome
-    ensures { λ r. ⌜ r ≡ secondAt (now (m .entry)) table page ⌝ }
+    ensures { λ r. ⌜ Tells outcomeNumber (secondAt (now (m .entry)) table page) r ⌝ }
 {
     let at = table.base as usize + 4 * (page % 256);
     match load(m, at, Size::Four) {
@@ -60,7 +61,7 @@ pub fn level_two(m: &[u8], table: Pointer, page: usize) -> Outcome
 
 // The walk of a page.
 pub fn walk(m: &[u8], root: u32, page: usize) -> Outcome
-    ensures { λ r. ⌜ r ≡ walkPage (now (m .entry)) root page ⌝ }
+    ensures { λ r. ⌜ Tells outcomeNumber (walkPage (now (m .entry)) root page) r ⌝ }
 {
     match level_one(m, root, page) {
         FirstLevel::Failing(f) => Outcome::Failed(f),

@@ -1,5 +1,7 @@
 use mathlib.Core.Path.{sym, _∙_}
 use Rattle.model.specs.step.Machine.{accessAt}
+use Rattle.model.proofs.Tellings.{tells}
+use Rattle.model.specs.Numbers.{accessResult}
 use borrow.Author.Needs.{needs}
 use Rattle.access.proofs.access_at.Statement.{statement}
 use Rattle.access.proofs.access_at.Tie as tie
@@ -21,7 +23,7 @@ decide-requires c κs = search needs
 returns : tie.Need-returns
 unfolding accessAt
 returns c = let w = c .before in let o = w .before in
-    c .decide .ensures ∙ rw (w .is-stale-page .ensures, o .walk .ensures)
+    tells accessResult (c .decide .ensures .same ∙ rw (w .is-stale-page .ensures, o .walk .ensures .same))
 
 pub access-at-spec : {M : Type 1} → statement M
 access-at-spec = tie.close (tie.spec walk-requires is-stale-page-requires decide-requires returns)

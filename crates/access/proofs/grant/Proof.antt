@@ -3,6 +3,8 @@ use denote.Ref.{now}
 use Rattle.model.specs.declared.Outcome.{Outcome}
 use Rattle.model.specs.step.Machine.{granted}
 use Rattle.access.proofs.Laws.{granted-by}
+use Rattle.model.proofs.Tellings.{tells}
+use Rattle.model.specs.Numbers.{accessResult}
 use borrow.Author.Needs.{needs}
 use Rattle.access.proofs.grant.Statement.{statement}
 use Rattle.access.proofs.grant.Tie as tie
@@ -29,12 +31,12 @@ reach-requires c κs = search needs
 
 returns : tie.Need-returns
 returns c = let k = c .before in let a = k .before .before .before .args in
-    sym (ap (λ (z : Outcome). granted z (a .r) (a .purpose) (a .size) (a .a) (now (a .m))) (k .o .given .1))
+    tells accessResult (sym (ap (λ (z : Outcome). granted z (a .r) (a .purpose) (a .size) (a .a) (now (a .m))) (k .o .given .1)))
 
 returns-2 : tie.Need-returns-2
 returns-2 c =
     let f = c .before .before in let k = f .before .before in let a = k .before .before .before .args in
-    granted-by (a .r) (a .purpose) (a .size) (a .a) (now (a .m)) (k .o2 .given .0 .0) (k .o2 .given .1) (f .field-of .ensures) (c .before .rule .ensures) (c .reach .ensures)
+    tells accessResult (granted-by (a .r) (a .purpose) (a .size) (a .a) (now (a .m)) (k .o2 .given .0 .0) (k .o2 .given .1) (f .field-of .ensures) (c .before .rule .ensures .same) (c .reach .ensures .same))
 
 pub grant-spec : {M : Type 1} → statement M
 grant-spec =

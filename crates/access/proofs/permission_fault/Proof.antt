@@ -1,4 +1,6 @@
 use Rattle.model.specs.step.Machine.{permissionFaultOf}
+use Rattle.model.proofs.Tellings.{tells}
+use Rattle.model.specs.Numbers.{faultNumber}
 use borrow.Author.Needs.{needs}
 use Rattle.access.proofs.permission_fault.Statement.{statement}
 use Rattle.access.proofs.permission_fault.Tie as tie
@@ -11,7 +13,7 @@ by-level-requires c κs = search needs
 
 returns : tie.Need-returns
 unfolding permissionFaultOf
-returns c = c .by-level .ensures
+returns c = tells faultNumber (c .by-level .ensures)
 
 pub permission-fault-spec : {M : Type 1} → statement M
 permission-fault-spec = tie.close (tie.spec by-level-requires returns)

@@ -3,6 +3,8 @@ use denote.Ref.{now}
 use Rattle.model.specs.declared.Ruling.{Ruling}
 use Rattle.model.specs.declared.Access.the-variants.{Fails}
 use Rattle.model.specs.step.Machine.{reached}
+use Rattle.model.proofs.Tellings.{tells}
+use Rattle.model.specs.Numbers.{accessResult}
 use borrow.Author.Needs.{needs}
 use Rattle.access.proofs.reach.Statement.{statement}
 use Rattle.access.proofs.reach.Tie as tie
@@ -41,19 +43,19 @@ enum-told-3 c = search needs
 
 returns : tie.Need-returns
 returns c = let e = c .before in let i = e .before .before .before .before in let a = i .before .before .before .args in
-    sym (ap (λ (y : Ruling). reached y (a .e) (a .size) (a .a) (now (a .m))) (e .enum-told3 .given .1) ∙ simp (sym (i .inside .ensures) ∙ c .if1 .taken))
+    tells accessResult (sym (ap (λ (y : Ruling). reached y (a .e) (a .size) (a .a) (now (a .m))) (e .enum-told3 .given .1) ∙ simp (sym (i .inside .ensures) ∙ c .if1 .taken)))
 
 returns-2 : tie.Need-returns-2
 returns-2 c = let d = c .before .before in let a = d .before .before .before .before .before .args in
-    ap Fails (d .domain-fault .ensures) ∙ sym (ap (λ (y : Ruling). reached y (a .e) (a .size) (a .a) (now (a .m))) (c .enum-told .given .1))
+    tells accessResult (ap Fails (d .domain-fault .ensures .same) ∙ sym (ap (λ (y : Ruling). reached y (a .e) (a .size) (a .a) (now (a .m))) (c .enum-told .given .1)))
 
 returns-3 : tie.Need-returns-3
 returns-3 c = let p = c .before .before .before in let a = p .before .before .before .before .args in
-    ap Fails (p .permission-fault .ensures) ∙ sym (ap (λ (y : Ruling). reached y (a .e) (a .size) (a .a) (now (a .m))) (c .enum-told2 .given .1))
+    tells accessResult (ap Fails (p .permission-fault .ensures .same) ∙ sym (ap (λ (y : Ruling). reached y (a .e) (a .size) (a .a) (now (a .m))) (c .enum-told2 .given .1)))
 
 returns-4 : tie.Need-returns-4
 returns-4 c = let e = c .before in let i = e .before .before .before .before in let a = i .before .before .before .args in
-    sym (ap (λ (y : Ruling). reached y (a .e) (a .size) (a .a) (now (a .m))) (e .enum-told3 .given .1) ∙ simp (sym (i .inside .ensures) ∙ c .if1 .left))
+    tells accessResult (sym (ap (λ (y : Ruling). reached y (a .e) (a .size) (a .a) (now (a .m))) (e .enum-told3 .given .1) ∙ simp (sym (i .inside .ensures) ∙ c .if1 .left)))
 
 pub reach-spec : {M : Type 1} → statement M
 reach-spec =

@@ -145,7 +145,7 @@ same-length-2 c = search needs
 returns : tie.Need-returns
 unfolding operate
 returns c = let k = c .before .before in let z = k .before .before .before in let e = z .before in let a = e .before .before .before .before .args in
-    regive _ _ _ _ _ (ap (λ (s : Size). readStep (a .o .a) s (a .r) (now (a .m)) (now (a .t))) (z .size-of .ensures) ∙ sym (ap (λ (w : Kind). operate w (a .o) (a .r) (now (a .m)) (now (a .t))) (e .enum-told .given .1))) (k .read .ensures)
+    regive _ _ _ _ _ (ap (λ (s : Size). readStep (a .o .a) s (a .r) (now (a .m)) (now (a .t))) (z .size-of .ensures .same) ∙ sym (ap (λ (w : Kind). operate w (a .o) (a .r) (now (a .m)) (now (a .t))) (e .enum-told .given .1))) (k .read .ensures)
 
 same-length-3 : tie.Need-same-length-3
 same-length-3 c = search needs
@@ -156,7 +156,7 @@ same-length-4 c = search needs
 returns-2 : tie.Need-returns-2
 unfolding operate
 returns-2 c = let k = c .before .before .before .before in let z = k .before .before .before in let e = z .before in let a = e .before .before .before .before .args in
-    regive _ _ _ _ _ (ap (λ (s : Size). writeStep (a .o .a) s (a .o .c) (a .r) (now (a .m)) (now (a .t))) (z .size-of2 .ensures) ∙ sym (ap (λ (w : Kind). operate w (a .o) (a .r) (now (a .m)) (now (a .t))) (e .enum-told2 .given .1))) (k .write .ensures)
+    regive _ _ _ _ _ (ap (λ (s : Size). writeStep (a .o .a) s (a .o .c) (a .r) (now (a .m)) (now (a .t))) (z .size-of2 .ensures .same) ∙ sym (ap (λ (w : Kind). operate w (a .o) (a .r) (now (a .m)) (now (a .t))) (e .enum-told2 .given .1))) (k .write .ensures)
 
 same-length-5 : tie.Need-same-length-5
 same-length-5 c = search needs

@@ -76,7 +76,7 @@ loop-again : tie.Need-loop-again Inv-loop μ-loop
 loop-again c = let l = c .before .before .before .before .before .before in let s = l .before .before .before .before .before .before in let a = s .args in let i = l .loop .i in
     let v = l .loop .inv .1 .1 .1 in
     let inside : a .table .base + 4 * i + 4 ≤ length (now (a .m)) = omega (arith, v .0 (omega arith)) in
-    let found = c .before .second-of .ensures ∙ table-word (now (a .m)) (a .table) i _ (omega arith) inside (c .before .before .word .ensures) in (
+    let found = c .before .second-of .ensures .same ∙ table-word (now (a .m)) (a .table) i _ (omega arith) inside (c .before .before .word .ensures) in (
       omega arith,
       (
         l .loop .inv .1 .0,

@@ -38,22 +38,22 @@ changes-by-table-requires c κs = search needs
 returns : tie.Need-returns
 returns c = let f = c .before .before in let x = f .before .before in let l = x .before .before in let a = l .before .before .before .before .args in
     λ h. record {
-      inOwn = no-change (now (a .own)) ∙ by-first (now (a .m)) (a .at) 0 (now (a .own)) _ _ (sym (x .x .given .1) ∙ l .load .ensures) (sym (c .enum-told .given .1) ∙ f .first-of .ensures);
-      inShared = no-change (now (a .shared)) ∙ by-first (now (a .m)) (a .at) 1 (now (a .shared)) _ _ (sym (x .x .given .1) ∙ l .load .ensures) (sym (c .enum-told .given .1) ∙ f .first-of .ensures);
+      inOwn = no-change (now (a .own)) ∙ by-first (now (a .m)) (a .at) 0 (now (a .own)) _ _ (sym (x .x .given .1) ∙ l .load .ensures) (sym (c .enum-told .given .1) ∙ f .first-of .ensures .same);
+      inShared = no-change (now (a .shared)) ∙ by-first (now (a .m)) (a .at) 1 (now (a .shared)) _ _ (sym (x .x .given .1) ∙ l .load .ensures) (sym (c .enum-told .given .1) ∙ f .first-of .ensures .same);
     }
 
 returns-2 : tie.Need-returns-2
 returns-2 c = let f = c .before .before .before in let x = f .before .before in let l = x .before .before in let a = l .before .before .before .before .args in
     λ h. record {
-      inOwn = c .changes-by-section .ensures h .inOwn ∙ by-first (now (a .m)) (a .at) 0 (now (a .own)) _ _ (sym (x .x .given .1) ∙ l .load .ensures) (sym (c .before .enum-told2 .given .1) ∙ f .first-of .ensures);
-      inShared = c .changes-by-section .ensures h .inShared ∙ by-first (now (a .m)) (a .at) 1 (now (a .shared)) _ _ (sym (x .x .given .1) ∙ l .load .ensures) (sym (c .before .enum-told2 .given .1) ∙ f .first-of .ensures);
+      inOwn = c .changes-by-section .ensures h .inOwn ∙ by-first (now (a .m)) (a .at) 0 (now (a .own)) _ _ (sym (x .x .given .1) ∙ l .load .ensures) (sym (c .before .enum-told2 .given .1) ∙ f .first-of .ensures .same);
+      inShared = c .changes-by-section .ensures h .inShared ∙ by-first (now (a .m)) (a .at) 1 (now (a .shared)) _ _ (sym (x .x .given .1) ∙ l .load .ensures) (sym (c .before .enum-told2 .given .1) ∙ f .first-of .ensures .same);
     }
 
 returns-3 : tie.Need-returns-3
 returns-3 c = let f = c .before .before .before .before in let x = f .before .before in let l = x .before .before in let a = l .before .before .before .before .args in
     λ h. record {
-      inOwn = c .changes-by-table .ensures h .inOwn ∙ by-first (now (a .m)) (a .at) 0 (now (a .own)) _ _ (sym (x .x .given .1) ∙ l .load .ensures) (sym (c .before .before .table .given .1) ∙ f .first-of .ensures);
-      inShared = c .changes-by-table .ensures h .inShared ∙ by-first (now (a .m)) (a .at) 1 (now (a .shared)) _ _ (sym (x .x .given .1) ∙ l .load .ensures) (sym (c .before .before .table .given .1) ∙ f .first-of .ensures);
+      inOwn = c .changes-by-table .ensures h .inOwn ∙ by-first (now (a .m)) (a .at) 0 (now (a .own)) _ _ (sym (x .x .given .1) ∙ l .load .ensures) (sym (c .before .before .table .given .1) ∙ f .first-of .ensures .same);
+      inShared = c .changes-by-table .ensures h .inShared ∙ by-first (now (a .m)) (a .at) 1 (now (a .shared)) _ _ (sym (x .x .given .1) ∙ l .load .ensures) (sym (c .before .before .table .given .1) ∙ f .first-of .ensures .same);
     }
 
 enum-told-3 : tie.Need-enum-told-3

@@ -40,21 +40,21 @@ enum-told-3 c = search needs
 
 returns : tie.Need-returns
 returns c = let f = c .before .before in let x = f .before .before in let l = x .before .before in let a = l .before .before .before .args in
-    no-change (now (a .mib)) ∙ by-first (now (a .m)) (a .at) (a .global) (now (a .mib)) _ _ (sym (x .x .given .1) ∙ l .load .ensures) (sym (c .enum-told .given .1) ∙ f .first-of .ensures)
+    no-change (now (a .mib)) ∙ by-first (now (a .m)) (a .at) (a .global) (now (a .mib)) _ _ (sym (x .x .given .1) ∙ l .load .ensures) (sym (c .enum-told .given .1) ∙ f .first-of .ensures .same)
 
 same-length : tie.Need-same-length
 same-length c = search needs
 
 returns-2 : tie.Need-returns-2
 returns-2 c = let f = c .before .before .before .before .before .before in let x = f .before .before in let l = x .before .before in let a = l .before .before .before .args in
-    c .before .before .note-section .ensures ∙ by-first (now (a .m)) (a .at) (a .global) (now (a .mib)) _ _ (sym (x .x .given .1) ∙ l .load .ensures) (sym (c .before .before .before .before .enum-told2 .given .1) ∙ f .first-of .ensures)
+    c .before .before .note-section .ensures ∙ by-first (now (a .m)) (a .at) (a .global) (now (a .mib)) _ _ (sym (x .x .given .1) ∙ l .load .ensures) (sym (c .before .before .before .before .enum-told2 .given .1) ∙ f .first-of .ensures .same)
 
 same-length-2 : tie.Need-same-length-2
 same-length-2 c = search needs
 
 returns-3 : tie.Need-returns-3
 returns-3 c = let f = c .before .before .before .before .before .before .before in let x = f .before .before in let l = x .before .before in let a = l .before .before .before .args in
-    c .before .before .note-table .ensures ∙ by-first (now (a .m)) (a .at) (a .global) (now (a .mib)) _ _ (sym (x .x .given .1) ∙ l .load .ensures) (sym (c .before .before .before .before .before .table .given .1) ∙ f .first-of .ensures)
+    c .before .before .note-table .ensures ∙ by-first (now (a .m)) (a .at) (a .global) (now (a .mib)) _ _ (sym (x .x .given .1) ∙ l .load .ensures) (sym (c .before .before .before .before .before .table .given .1) ∙ f .first-of .ensures .same)
 
 returns-4 : tie.Need-returns-4
 returns-4 c = let l = c .before .before in let a = l .before .before .before .args in

@@ -72,7 +72,7 @@ loop-again : tie.Need-loop-again Inv-loop μ-loop
 loop-again c = let l = c .before .before .before .before .before in let a = l .before .before .before .before .before .args in
     let v = l .loop .inv .1 .1 in
     let inside : a .table .base + 4 * l .loop .i + 4 ≤ length (now (a .m)) = omega (arith, v .0 (omega arith)) in
-    (omega arith, (l .loop .inv .1 .0, (λ h. v .0 (omega (arith, h)), (v .1 .0, (turn (noteTable (now (a .m)) (a .table) (a .global)) _ _ _ _ (v .1 .1 .0) (omega arith) (c .add-outcome .ensures ∙ ap (addOutcome (a .global) (getD (l .loop .mib) (l .loop .i) 0)) (c .before .second-of .ensures ∙ table-word (now (a .m)) (a .table) (l .loop .i) _ (omega arith) inside (c .before .before .word .ensures))), simp length-set (v .1 .1 .1))))))
+    (omega arith, (l .loop .inv .1 .0, (λ h. v .0 (omega (arith, h)), (v .1 .0, (turn (noteTable (now (a .m)) (a .table) (a .global)) _ _ _ _ (v .1 .1 .0) (omega arith) (c .add-outcome .ensures ∙ ap (addOutcome (a .global) (getD (l .loop .mib) (l .loop .i) 0)) (c .before .second-of .ensures .same ∙ table-word (now (a .m)) (a .table) (l .loop .i) _ (omega arith) inside (c .before .before .word .ensures))), simp length-set (v .1 .1 .1))))))
 
 same-length : tie.Need-same-length Inv-loop μ-loop
 same-length c = c .before .loop .inv .1 .1 .1 .1 .1

@@ -37,7 +37,7 @@ returns-2 : tie.Need-returns-2
 returns-2 c =
     let said = c .before in
     let kind = said .before in
-    computed (kind .before .before .args .place) (search needs) (kind .kind-at .ensures) (said .by-rules .ensures) (c .number-of .ensures)
+    computed (kind .before .before .args .place) (search needs) (kind .kind-at .ensures) (said .by-rules .ensures .same) (c .number-of .ensures)
 
 pub compute-spec : {M : Type 1} → statement M
 compute-spec =

@@ -31,7 +31,7 @@ enum-told c = search needs
 returns : tie.Need-returns
 returns c = let l = c .before .before .before .before .before in let a = l .before .before .args in
     c .touches-table .ensures
-    ∙ ap (λ (x : FirstLevel). touchesTable x (a .at) (a .n)) (c .before .first-of .ensures ∙ via (λ (x : Loaded). firstFrom x 0) (l .load .ensures) (c .before .before .before .w .given .1))
+    ∙ ap (λ (x : FirstLevel). touchesTable x (a .at) (a .n)) (c .before .first-of .ensures .same ∙ via (λ (x : Loaded). firstFrom x 0) (l .load .ensures) (c .before .before .before .w .given .1))
 
 returns-2 : tie.Need-returns-2
 returns-2 c = let l = c .before .before in let a = l .before .before .args in

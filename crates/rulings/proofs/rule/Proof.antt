@@ -2,6 +2,8 @@ use Prim.Native.Nat.{ℕ, _<_}
 use mathlib.Core.Path.{subst⁻¹, _∙_}
 use native.Mathlib.Omega.{arith}
 use Rattle.rulings.proofs.Laws.{within-below, flag-below, looked-up}
+use Rattle.model.proofs.Tellings.{tells}
+use Rattle.permissions.specs.Sheet.{answer}
 use borrow.Author.Needs.{needs}
 use Rattle.rulings.proofs.rule.Statement.{statement}
 use Rattle.rulings.proofs.rule.Tie as tie
@@ -44,8 +46,8 @@ returns : tie.Need-returns
 returns c =
     let t = c .before in let p = t .before in let g = p .before in let f = g .before in let m = f .before in let w = m .before in
     let a = w .before .args in
-    c .ruling-of .ensures
-    ∙ looked-up (a .ap) (a .mode) (a .purpose) (a .field) (a .xn) (w .within .ensures) (m .flag .ensures) (f .within2 .ensures) (g .flag2 .ensures) (p .place .ensures) (t .answer-at .ensures)
+    tells answer (c .ruling-of .ensures
+    ∙ looked-up (a .ap) (a .mode) (a .purpose) (a .field) (a .xn) (w .within .ensures) (m .flag .ensures) (f .within2 .ensures) (g .flag2 .ensures) (p .place .ensures) (t .answer-at .ensures))
 
 pub rule-spec : {M : Type 1} → statement M
 rule-spec =

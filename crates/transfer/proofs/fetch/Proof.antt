@@ -24,7 +24,7 @@ same-length c = search needs
 returns : tie.Need-returns
 unfolding fetchStep
 returns c = let k = c .before .before in let x = k .before .before in let a = x .before .before .before .before .args in
-    regive _ _ _ _ _ (ap (λ (z : Access). readFrom z Four (a .r) (now (a .m)) (now (a .t))) (x .access-at .ensures)) (k .read-from .ensures)
+    regive _ _ _ _ _ (ap (λ (z : Access). readFrom z Four (a .r) (now (a .m)) (now (a .t))) (x .access-at .ensures .same)) (k .read-from .ensures)
 
 pub fetch-spec : {M : Type 1} → statement M
 fetch-spec = tie.close (tie.spec access-at-requires read-from-requires same-length returns)

@@ -32,7 +32,7 @@ same-length-2 c = search needs
 returns : tie.Need-returns
 unfolding writeStep
 returns c = let k = c .before .before .before .before in let x = k .before .before .before in let a = x .before .before .before .before .before .args in
-    regive _ _ _ _ _ (ap (λ (z : Access). writeTo z (a .size) (a .v) (a .r) (now (a .m)) (now (a .t))) (x .access-at .ensures)) (k .write-to .ensures)
+    regive _ _ _ _ _ (ap (λ (z : Access). writeTo z (a .size) (a .v) (a .r) (now (a .m)) (now (a .t))) (x .access-at .ensures .same)) (k .write-to .ensures)
 
 pub write-spec : {M : Type 1} → statement M
 write-spec =

@@ -26,7 +26,7 @@ outcome-number-requires c κs = search needs
 returns : tie.Need-returns
 unfolding walkAnswer
 returns c = let t3 = c .before .before in let t2 = t3 .before in let t1 = t2 .before .before in
-    simp (sym (t1 .before .memory-fits .ensures) ∙ t1 .if1 .taken, sym (t2 .before .root-fits .ensures) ∙ t2 .if2 .taken, lt-ltb _ _ (t3 .if3 .taken)) (c .outcome-number .ensures ∙ ap outcomeNumber (c .before .walk .ensures))
+    simp (sym (t1 .before .memory-fits .ensures) ∙ t1 .if1 .taken, sym (t2 .before .root-fits .ensures) ∙ t2 .if2 .taken, lt-ltb _ _ (t3 .if3 .taken)) (c .outcome-number .ensures ∙ c .before .walk .ensures .number)
 
 returns-2 : tie.Need-returns-2
 unfolding walkAnswer
