@@ -4,20 +4,21 @@ use mathlib.Core.Path.{_≡_, refl, ap, sym, _∙_}
 use mathlib.Core.Bool.{Bool, true, false, cond}
 use mathlib.Core.List.{List}
 use native.Mathlib.Omega.{arith}
-use lib.Dec.{ltb}
+use lib.Dec.{eqb, ltb}
 use lib.ListN.{length, take, drop}
 use lib.Seq.{length-take-le, take-at}
 use borrow.Author.Tests.{ltb-false, le-ltb}
 use Rattle.text.specs.Put.{over}
 use Rattle.lines.specs.Form.{pairText}
 use Rattle.lines.specs.Ways.{Converted, gives, refusal, lengthFits, output}
+use Rattle.lines.specs.Settings.{imageLimit}
 use Rattle.lines.proofs.LineLaws.{pair-most}
 use Rattle.lines.proofs.Theorem.{fits-parts}
 use Rattle.line_reader.specs.declared.Verdict.{Verdict}
 use Rattle.line_reader.specs.declared.Verdict.the-variants.{Good, Form, Order}
 use Rattle.line_reader.specs.declared.Reader.{Reader}
-use Rattle.line_reader.specs.declared.Told.the-variants.{Output, ShortBuffer}
-use Rattle.line_reader.specs.Reading.{complete, lastTest, lineAfter, byVerdict, ending, EndCall, endCall, finished}
+use Rattle.line_reader.specs.declared.Told.the-variants.{Output, ShortBuffer, WrongBuffer}
+use Rattle.line_reader.specs.Reading.{complete, lastTest, lineAfter, byVerdict, ending, EndCall, endCall, finished, finishedFile}
 
 -- the front of m is the whole output, and no longer than m, or there is room for the output
 pub data Stands : Converted → List ℕ → Type 0 where
@@ -69,3 +70,11 @@ told-fits r m n h = go (ltb (length m) 18) refl
         let q : Output n ≡ Output (length (output (ending r m))) = sym h ∙ f .0 in
         let z : n ≡ length (output (ending r m)) = cc in
         omega (arith, f .2)
+
+pub file-told-fits : (r : Reader) (m : List ℕ) (n : ℕ) → finishedFile r m .told ≡ Output n → n ≤ length m
+unfolding finishedFile
+file-told-fits r m n h = go (eqb (length m) imageLimit) h
+  where
+    go : (t : Bool) → cond t (finished r m) (record { told = WrongBuffer; image = m }) .told ≡ Output n → n ≤ length m
+    go true k = told-fits r m n k
+    go false k = let z : _≡_ {A = ℕ} 0 1 = cc in absurd (omega arith)

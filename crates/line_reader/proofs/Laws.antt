@@ -15,12 +15,13 @@ use Rattle.model.specs.step.Memory.{writtenAt}
 use Rattle.lines.specs.declared.Line.{Line}
 use Rattle.lines.specs.Form.{lineNames, lineOf}
 use Rattle.lines.specs.Ways.{gives, refusal, lengthFits}
+use Rattle.lines.specs.Settings.{imageLimit}
 use Rattle.line_reader.specs.declared.Verdict.{Verdict}
 use Rattle.line_reader.specs.declared.Verdict.the-variants.{Form, Order}
 use Rattle.line_reader.specs.declared.Reader.{Reader}
 use Rattle.line_reader.specs.declared.Told.{Told}
-use Rattle.line_reader.specs.declared.Told.the-variants.{ShortBuffer}
-use Rattle.line_reader.specs.Reading.{State, turn, lateTurn, accept, changed, soFar, oneMore, withByte, namesEnded, wordEnded, said, lineEnded, byteTaken, isDecided, step, feed, lineAfter, complete, lastTest, byVerdict, ending, EndCall, endCall, finished}
+use Rattle.line_reader.specs.declared.Told.the-variants.{ShortBuffer, WrongBuffer}
+use Rattle.line_reader.specs.Reading.{State, turn, lateTurn, accept, changed, soFar, oneMore, withByte, namesEnded, wordEnded, said, lineEnded, byteTaken, isDecided, step, feed, lineAfter, complete, lastTest, byVerdict, ending, EndCall, endCall, finished, finishedFile}
 
 module _ (b : ℕ) (s : State) where
   -- a byte more of a line
@@ -129,6 +130,14 @@ module _ (r : Reader) (m : List ℕ) where
   pub finished-good : 18 ≤ length m → (v : Verdict) → r .verdict ≡ v → finished r m ≡ endCall (byVerdict v r m) m
   unfolding finished
   finished-good h v e = ap (λ (t : Bool). cond t (record { told = ShortBuffer; image = m }) (endCall (ending r m) m)) (le-ltb (length m) 18 h) ∙ ap (λ (x : Verdict). endCall (byVerdict x r m) m) e
+
+  pub file-wrong : (length m ≡ imageLimit → ⊥) → finishedFile r m ≡ record { told = WrongBuffer; image = m }
+  unfolding finishedFile
+  file-wrong h = rw (ne-eqb (length m) imageLimit h)
+
+  pub file-good : length m ≡ imageLimit → finishedFile r m ≡ finished r m
+  unfolding finishedFile
+  file-good h = rw (eq-eqb (length m) imageLimit h)
 
 -- what a call gives, from an equation with its definition
 pub by-call : (x : Told) (o : List ℕ) (c d : EndCall) → d ≡ c → (x ≡ c .told) × (o ≡ c .image) → (x ≡ d .told) × (o ≡ d .image)

@@ -20,6 +20,7 @@ use Rattle.lines.specs.declared.Line.the-variants.{At, Misshapen}
 use Rattle.lines.specs.Form.{lineNames, lineOf}
 use Rattle.lines.specs.Words.{Word, isEmpty, imageFrom, endFrom}
 use Rattle.lines.specs.Ways.{Converted, gives, refusal, lengthFits, Read, words, turned, withWord, refuses19, judged, behind, ended, readLines, hasNames, readAll, made, imageOf, output}
+use Rattle.lines.specs.Settings.{imageLimit, fileImage}
 use Rattle.lines.proofs.LineLaws.{line-fits, line-short}
 use Rattle.lines.proofs.WordLaws.{Rises}
 use Rattle.lines.proofs.ReadLaws.{order-kept, falls-refused, unaligned-refused, zero-refused, lines-read}
@@ -27,8 +28,8 @@ use Rattle.lines.proofs.Theorem.{fits-parts}
 use Rattle.line_reader.specs.declared.Verdict.{Verdict}
 use Rattle.line_reader.specs.declared.Verdict.the-variants.{Good, Form, Order}
 use Rattle.line_reader.specs.declared.Told.the-variants.{Output}
-use Rattle.line_reader.specs.Reading.{State, begun, lineLimit, lineAfter, turn, accept, changed, soFar, namesEnded, said, wordEnded, lineEnded, withByte, byteTaken, isDecided, decides, step, feed, complete, lastTest, byVerdict, ending, finished, endOf, Streamed}
-use Rattle.line_reader.proofs.Laws.{byte-added, byte-refused, taken-late, taken-newline, taken-other, step-decided, step-taken, names-good, names-wrong, line-names, line-said, word-falls, word-unaligned, word-good, last-open}
+use Rattle.line_reader.specs.Reading.{State, begun, lineLimit, lineAfter, turn, accept, changed, soFar, namesEnded, said, wordEnded, lineEnded, withByte, byteTaken, isDecided, decides, step, feed, complete, lastTest, byVerdict, ending, EndCall, finished, endOf, endOfFile, Streamed, FileStreamed}
+use Rattle.line_reader.proofs.Laws.{byte-added, byte-refused, taken-late, taken-newline, taken-other, step-decided, step-taken, names-good, names-wrong, line-names, line-said, word-falls, word-unaligned, word-good, last-open, file-good}
 use Rattle.line_reader.proofs.Stored.{stored, written-length, stored-image}
 use Rattle.line_reader.proofs.Front.{front}
 
@@ -439,3 +440,17 @@ whole-front d limit l room fit =
 
 pub streamed : Streamed
 streamed = record { parts = feed-parts; decided = feed-decided; whole = whole; front = whole-front }
+
+-- ── The programs ──
+-- the image's buffer has kept its length, the limit
+file-end : (d l : List ℕ) → endOfFile d l ≡ endOf d imageLimit l
+file-end d l = let s = feed l (begun d imageLimit) in file-good (s .reader) (s .image) (feed-length l (begun d imageLimit) ∙ length-replicate {A = ℕ} imageLimit 0)
+
+file-front : (d l : List ℕ) → 17 ≤ length d → let s = output (fileImage l) in (endOfFile d l .told ≡ Output (length s)) × (take (length s) (endOfFile d l .image) ≡ s)
+file-front d l room =
+    let f = whole-front d imageLimit l room (omega arith) in
+    let e = file-end d l in
+    (ap (λ (c : EndCall). c .told) e ∙ f .0, ap (λ (c : EndCall). take (length (output (fileImage l))) (c .image)) e ∙ f .1)
+
+pub file-streamed : FileStreamed
+file-streamed = record { front = file-front }

@@ -16,11 +16,12 @@ use Rattle.lines.specs.declared.Line.{Line}
 use Rattle.lines.specs.declared.Line.the-variants.{At, Misshapen}
 use Rattle.lines.specs.Form.{lineNames, lineOf, pairText, lineMost, pairRoom}
 use Rattle.lines.specs.Ways.{Converted, gives, refusal, lengthFits, imageOf, output}
+use Rattle.lines.specs.Settings.{imageLimit, fileImage}
 use Rattle.line_reader.specs.declared.Verdict.{Verdict}
 use Rattle.line_reader.specs.declared.Verdict.the-variants.{Good, Form, Order}
 use Rattle.line_reader.specs.declared.Reader.{Reader}
 use Rattle.line_reader.specs.declared.Told.{Told}
-use Rattle.line_reader.specs.declared.Told.the-variants.{Output, ShortBuffer}
+use Rattle.line_reader.specs.declared.Told.the-variants.{Output, ShortBuffer, WrongBuffer}
 
 -- the reader, the buffer of the line being read, and the image
 pub record State : Type 0 where
@@ -157,10 +158,18 @@ endCall (refusal n r) d = refusalCall n r d
 unfoldable pub finished : Reader → List ℕ → EndCall
 finished r m = cond (ltb (length m) pairRoom) (record { told = ShortBuffer; image = m }) (endCall (ending r m) m)
 
+-- the same for the programs: the length of the image's buffer is the limit, so one of another length has an answer of its own and stays as it is
+unfoldable pub finishedFile : Reader → List ℕ → EndCall
+finishedFile r m = cond (eqb (length m) imageLimit) (finished r m) (record { told = WrongBuffer; image = m })
+
 -- ── What is proved ──
 -- the end of an input that is fed from the beginning, in a buffer for the line and an image of so many bytes
 abbrev pub endOf : List ℕ → ℕ → List ℕ → EndCall
 endOf d limit l = let s = feed l (begun d limit) in finished (s .reader) (s .image)
+
+-- the same for the programs
+abbrev pub endOfFile : List ℕ → List ℕ → EndCall
+endOfFile d l = let s = feed l (begun d imageLimit) in finishedFile (s .reader) (s .image)
 
 -- For every limit, and every buffer that can hold a line.
 pub record Streamed : Type 0 where
@@ -173,3 +182,7 @@ pub record Streamed : Type 0 where
   -- and the front of the image's buffer is the whole output, where a refusal fits
   pub front : (d : List ℕ) (limit : ℕ) (l : List ℕ) → lineMost ≤ length d → pairRoom ≤ limit
       → (endOf d limit l .told ≡ Output (length (output (imageOf limit l)))) × (take (length (output (imageOf limit l))) (endOf d limit l .image) ≡ output (imageOf limit l))
+
+-- Under the limit of the programs, for every buffer that can hold a line: the front of the image's buffer is the whole output.
+pub record FileStreamed : Type 0 where
+  pub front : (d l : List ℕ) → lineMost ≤ length d → let s = output (fileImage l) in (endOfFile d l .told ≡ Output (length s)) × (take (length s) (endOfFile d l .image) ≡ s)

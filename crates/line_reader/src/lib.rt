@@ -5,7 +5,7 @@ ghost use mathlib.Core.List.{List};
 ghost use Prim.Native.Nat.{ℕ, _≤_};
 ghost use lib.ListN.{length, take, replicate};
 ghost use Rattle.lines.specs.Form.{pairOf, lineOf};
-ghost use Rattle.line_reader.specs.Reading.{fresh, lineAfter, turn, lateTurn, accept, withByte, namesEnded, wordEnded, lineEnded, byteTaken, step as Reading·step, feed as Reading·feed, isDecided, complete, lastTest, refusalCall, endCall, finished};
+ghost use Rattle.line_reader.specs.Reading.{fresh, lineAfter, turn, lateTurn, accept, withByte, namesEnded, wordEnded, lineEnded, byteTaken, step as Reading·step, feed as Reading·feed, isDecided, complete, lastTest, refusalCall, endCall, finished, finishedFile};
 use lines::Line;
 use model::Size;
 use text::Value;
@@ -27,10 +27,12 @@ pub struct Reader {
     pub zero: bool,
 }
 
-// What the end of the input gives: how many bytes of the buffer are the whole output, or that the buffer is too short for a refusal.
+// What the end of the input gives: how many bytes of the buffer are the whole output, that the buffer is too short for a refusal, or, at
+// the end of a program's input, that its length is not the limit.
 pub enum Told {
     Output(usize),
     ShortBuffer,
+    WrongBuffer,
 }
 
 // Begins to read: the image is cleared.
@@ -281,4 +283,14 @@ pub fn finish(r: Reader, image: &mut [u8]) -> Told
         Verdict::Form => refuse(image, r.lines, 18),
         Verdict::Order => refuse(image, r.lines, 19),
     }
+}
+
+// The same for the programs: the image's buffer has 32,768 bytes, and one of another length stays as it is.
+pub fn finish_file(r: Reader, image: &mut [u8]) -> Told
+    ensures { λ x. ⌜ (x ≡ finishedFile r (now (image .entry)) .told) × (now (image .exit) ≡ finishedFile r (now (image .entry)) .image) ⌝ }
+{
+    if image.len() != 32768 { // imageLimit
+        return Told::WrongBuffer;
+    }
+    finish(r, image)
 }

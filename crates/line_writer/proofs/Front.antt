@@ -14,9 +14,11 @@ use Rattle.names.specs.Names.{newline}
 use Rattle.lines.specs.Form.{lineNames, pairText}
 use Rattle.lines.specs.Words.{wordOf, hasLine, kept, wordsFrom}
 use Rattle.lines.specs.Ways.{gives, refusal, lengthFits, linesText, textOf, linesOf, output}
+use Rattle.lines.specs.Settings.{imageLimit, fileLines}
 use Rattle.lines.proofs.LineLaws.{pair-most}
+use Rattle.lines.proofs.Theorem.{fits-parts}
 use Rattle.line_writer.specs.declared.Told.the-variants.{Text, ShortBuffer, WrongCounts}
-use Rattle.line_writer.specs.Call.{roomFor, LinesCall, inFront, left, called, Written}
+use Rattle.line_writer.specs.Call.{roomFor, LinesCall, inFront, left, called, Written, fileRoom, FileWritten}
 use Rattle.line_writer.proofs.Laws.{called-good}
 
 -- the front of a buffer in which a text was put
@@ -85,3 +87,21 @@ told-fits limit image n d size h = go (ltb (length image) n) refl (hasRoom (room
 
 pub written : Written
 written = record { front = front; enough = enough; room = room }
+
+-- ── The programs ──
+file-room : (n : ℕ) → roomFor imageLimit n ≤ fileRoom
+unfolding roomFor
+file-room n = go (lengthFits imageLimit n) refl
+  where
+    go : (t : Bool) → lengthFits imageLimit n ≡ t → cond t (18 + 18 * (n / 4)) 18 ≤ fileRoom
+    go true e = omega (arith, fits-parts imageLimit n e .3)
+    go false e = omega arith
+
+file-front : (image : List ℕ) (n : ℕ) (d : List ℕ) → n ≤ length image → fileRoom ≤ length d → let s = output (fileLines (take n image)) in
+    (called imageLimit image n d .told ≡ Text (length s)) × (take (length s) (called imageLimit image n d .out) ≡ s)
+file-front image n d h k =
+    let e = enough imageLimit image n d h (omega (arith, file-room n)) in
+    (e, front imageLimit image n d (length (output (fileLines (take n image)))) e)
+
+pub file-written : FileWritten
+file-written = record { front = file-front }

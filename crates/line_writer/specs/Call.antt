@@ -9,6 +9,7 @@ use Rattle.text.specs.Put.{over, hasRoom, wrote, placeAfter}
 use Rattle.lines.specs.Form.{pairText, pairRoom}
 use Rattle.lines.specs.Words.{hasLine}
 use Rattle.lines.specs.Ways.{lengthFits, linesOf, output}
+use Rattle.lines.specs.Settings.{imageLimit, fileLines}
 use Rattle.line_writer.specs.declared.Told.{Told}
 use Rattle.line_writer.specs.declared.Told.the-variants.{Text, ShortBuffer, WrongCounts}
 
@@ -45,3 +46,12 @@ pub record Written : Type 0 where
   pub front : (limit : ℕ) (image : List ℕ) (n : ℕ) (d : List ℕ) (size : ℕ) → called limit image n d .told ≡ Text size → take size (called limit image n d .out) ≡ output (linesOf limit (take n image))
   pub enough : (limit : ℕ) (image : List ℕ) (n : ℕ) (d : List ℕ) → n ≤ length image → roomFor limit n ≤ length d → called limit image n d .told ≡ Text (length (output (linesOf limit (take n image))))
   pub room : (limit : ℕ) (m : List ℕ) → length (output (linesOf limit m)) ≤ roomFor limit (length m)
+
+-- how many bytes are enough for every image file
+abbrev pub fileRoom : ℕ
+fileRoom = 147474
+
+-- Under the limit of the programs, whatever the image file: in a buffer of so many bytes the front is the whole output.
+pub record FileWritten : Type 0 where
+  pub front : (image : List ℕ) (n : ℕ) (d : List ℕ) → n ≤ length image → fileRoom ≤ length d → let s = output (fileLines (take n image)) in
+      (called imageLimit image n d .told ≡ Text (length s)) × (take (length s) (called imageLimit image n d .out) ≡ s)

@@ -6,6 +6,7 @@ ghost use Rattle.text.specs.Put.{over, wrote, placeAfter};
 ghost use Rattle.lines.specs.Form.{pairText, pairRoom};
 ghost use Rattle.lines.specs.Words.{wordOf, hasLine, wordsFrom};
 ghost use Rattle.lines.specs.Ways.{lengthFits, linesText, textOf};
+ghost use Rattle.lines.specs.Settings.{imageLimit};
 ghost use Rattle.line_writer.specs.Call.{placeAfterWord, wroteWord, called, roomFor as Call·roomFor};
 
 // What a call answers: how long the text is, or why there is none.
@@ -116,4 +117,11 @@ pub fn write_lines(limit: usize, image: &[u8], n: usize, out: &mut [u8]) -> Told
         return Told::Text(put_text(&image[..n], out));
     }
     Told::Text(put_pair(out, 0, 0, 19))
+}
+
+// The same for the programs: an image file that has more than 32,768 bytes is refused.
+pub fn write_file_lines(image: &[u8], n: usize, out: &mut [u8]) -> Told
+    ensures { λ x. ⌜ (x ≡ called imageLimit (now (image .entry)) n (now (out .entry)) .told) × (now (out .exit) ≡ called imageLimit (now (image .entry)) n (now (out .entry)) .out) ⌝ }
+{
+    write_lines(32768, image, n, out) // imageLimit
 }

@@ -1,7 +1,8 @@
--- Laws of an image as lines, the theorem on the two ways, and cases.
+-- Laws of an image as lines, the theorem on the two ways, cases, and the limit of the programs.
 pub mod LineLaws
 pub mod WordLaws
 pub mod ReadLaws
 pub mod Theorem
 pub mod RefusalLaws
 pub mod Cases
+pub mod Settings

@@ -20,7 +20,7 @@ struct Reading {
 }
 
 // The buffers come from functions that ensure their lengths: a proof never computes with their elements. The image's length is the limit
-// (imageLimit), and the line's is that of the longest line (lineMost).
+// (imageLimit), the only one that `finish_file` takes, and the line's is that of the longest line (lineMost).
 fn image_buffer() -> [u8; 32768]
     ensures { λ r. ⌜ 32768 ≡ length r ⌝ }
 {
@@ -93,7 +93,7 @@ fn read_lines(line: &mut [u8], image: &mut [u8]) -> Reading {
 
 // Writes the image, or the refusal.
 fn print_image(reader: Reader, image: &mut [u8]) {
-    if let Told::Output(size) = line_reader::finish(reader, image) {
+    if let Told::Output(size) = line_reader::finish_file(reader, image) {
         if !io::write_all(STDOUT_FILENO, &image[..size]) {
             os::fail(b"to_image: the output cannot be written");
         }

@@ -5,11 +5,8 @@ ghost use lib.ListN.{length};
 use libc::STDOUT_FILENO;
 use line_writer::Told;
 
-// The longest image (imageLimit).
-const LIMIT: usize = 32768;
-
 // The buffers come from functions that ensure their lengths: a proof never computes with their elements. The image's is one byte longer than the
-// limit, so that 'too long' is seen; the other has the room for the lines of the longest image (roomFor).
+// limit (imageLimit), so that 'too long' is seen; the other has room for the lines of every image (fileRoom).
 fn image_buffer() -> [u8; 32769]
     ensures { λ r. ⌜ 32769 ≡ length r ⌝ }
 {
@@ -25,7 +22,7 @@ fn text_buffer() -> [u8; 147474]
 // Writes the lines of an image buffer of which n bytes were read.
 fn print_lines(image: &[u8], n: usize) {
     let mut out = text_buffer();
-    if let Told::Text(size) = line_writer::write_lines(LIMIT, image, n, &mut out) {
+    if let Told::Text(size) = line_writer::write_file_lines(image, n, &mut out) {
         if !io::write_all(STDOUT_FILENO, &out[..size]) {
             os::fail(b"to_lines: the lines cannot be written");
         }
