@@ -1,0 +1,2 @@
+-- The claims.
+pub mod Claims
