@@ -23,7 +23,7 @@ use Rattle.model.specs.declared.Entry.{Entry}
 use Rattle.model.specs.declared.Kind.the-variants.{Read, Write, Addr, Ctx, AddrCtx, Fetch, Domain}
 use Rattle.model.specs.declared.Purpose.{Purpose}
 use Rattle.model.specs.Demands.{Call}
-use Rattle.model.specs.Invisible.{Session, isAccess, alignedAccess, CouldDiffer, checker}
+use Rattle.model.specs.Invisible.{Session, isAccess, alignedAccess}
 use Rattle.model.specs.Domains.{redomained, withDomain}
 use Rattle.model.specs.Sections.{asPage, equalPage, secondPlace}
 use Rattle.model.proofs.Calls.{total, faithful}
@@ -43,7 +43,6 @@ use Rattle.cases.proofs.RootChanges.{root-changes}
 use Rattle.permissions.specs.Sheet.{answer, answerAt}
 use Rattle.permissions.specs.Places.{placeOf}
 use Rattle.permissions.proofs.Places.{at-place}
-use Rattle.names.specs.Names.{name}
 use Rattle.listing.specs.Line.{lineOf}
 use Rattle.listing.specs.Whole.{lineNumber, endingNumber, finished, readList, listText, listLimit, AllValid}
 use Rattle.listing.specs.Refusals.{lineConditions, listConditions, GivenAt}
@@ -119,7 +118,7 @@ abbrev call : Operation → Registers → List ℕ → List ℕ → Call
 call o r m t = record { operation = o; registers = r; memory = m; track = t }
 
 -- ── Demand 1 ──
--- "Whatever it is handed, however damaged, it ends with the result that document 01 names." "A number is given only when its condition holds and none
+-- "Whatever it is handed, however damaged, it ends with the result that the rules name." "A number is given only when its condition holds and none
 -- before it does."
 pub operation-ends : (o : Operation) (r : Registers) (m t : List ℕ) (n : ℕ) → (shown (stepped o r m t .answer) ≡ refused n) ↔ Given n (conditions o r m t)
 operation-ends o r m t = total .exactly (call o r m t)
