@@ -11,7 +11,7 @@ use lib.Dec.{eqb}
 use lib.ListN.{length, getD, replicate, take}
 use borrow.Author.Tests.{le-leb, lt-leb, eq-eqb}
 use Rattle.model.specs.Limits.{pageSize, rowSize, addressLimit}
-use Rattle.model.specs.Numbers.{Result, ok, fault, refused, shown}
+use Rattle.model.specs.Numbers.{kindNumber, Result, ok, fault, refused, shown}
 use Rattle.model.specs.reference.Rules.{Translation, found, failed, inMemory, value, bits, domainOf, section, tableWord, walk, physical, ruling, State, fresh, stored, aligned, among, accessSize, effect, outcome, carriedOut, Scope, global, scopeOf, covers, flushes, Held, Places, heldScope, matches, Move, drop, load, move, moves, chipOutcome, flushPlace, chipStep, several, one, kept, wordOf, suits, notedIn, wordAfter, hasRow, trackWord, stale, conditions, startConditions, walkConditions, Given, translationNumber, refusedWalk}
 use Rattle.model.specs.reference.Runs.{last, Checker, checkerRun, isRefused, seen, told, plainRun, Moment, chipStart, chipNext, chipRun, chipSeen, Holds}
 use Rattle.model.specs.step.Machine.{After, started, stepped}
@@ -43,12 +43,16 @@ use Rattle.cases.proofs.RootChanges.{root-changes}
 use Rattle.permissions.specs.Sheet.{answer, answerAt}
 use Rattle.permissions.specs.Places.{placeOf}
 use Rattle.permissions.proofs.Places.{at-place}
+use Rattle.text.specs.Quoted.{quoted}
+use Rattle.names.specs.Names.{names, name, kinds}
+use Rattle.names.proofs.NameCases.{spelled as names-spelled}
 use Rattle.listing.specs.Line.{lineOf}
 use Rattle.listing.specs.Whole.{lineNumber, endingNumber, finished, readList, listText, listLimit, AllValid}
 use Rattle.listing.specs.Refusals.{lineConditions, listConditions, GivenAt}
 use Rattle.listing.proofs.RefusalLaws.{refused-exactly}
 use Rattle.listing.proofs.CanonicalLaws.{canonical}
-use Rattle.report_line.specs.Text.{header, startName, reportLine}
+use Rattle.report_line.specs.Text.{header, noName, startName, word, reportLine}
+use Rattle.report_line.proofs.ReportLineCases.{spelled as lines-spelled}
 use Rattle.report.specs.Report.{trackLength, memoryLength, looksAtList, AnswerLine, answerLines, answerText, endText, reportOf, reportLimit}
 use Rattle.report.specs.Shown.{unlessRefused}
 use Rattle.report.proofs.ShownLaws.{honest}
@@ -61,7 +65,7 @@ use Rattle.line_writer.specs.declared.Told.the-variants.{Text}
 use Rattle.line_writer.specs.Call.{fileRoom, called as written}
 use Rattle.line_writer.proofs.Front.{file-written}
 use Rattle.line_reader.specs.declared.Told.the-variants.{Output}
-use Rattle.line_reader.specs.Reading.{State as Reading, begun, feed, finishedFile}
+use Rattle.line_reader.specs.Reading.{State as Reading, begun, isDecided, feed, finishedFile}
 use Rattle.line_reader.proofs.Streams.{streamed, file-streamed}
 
 -- ── Words ──
@@ -145,6 +149,13 @@ list-ends = refused-exactly .whole
 
 pub list-is-read : (l : List ℕ) → (readList l .ending ≡ finished) ↔ ((line n : ℕ) → GivenAt line n (listConditions l) → ⊥)
 list-is-read = refused-exactly .accepted
+
+-- "The line of names `op,a,b,c`", and the names of the operations with their numbers: the bytes of each, in letters.
+pub names-in-letters :
+    (names ≡ quoted "op,a,b,c")
+    × (map name kinds ≡ map quoted ("read" ∷ "write" ∷ "root" ∷ "asid" ∷ "mode" ∷ "all" ∷ "addr" ∷ "ctx" ∷ "addrctx" ∷ "fetch" ∷ "domain" ∷ []))
+    × (map kindNumber kinds ≡ 0 ∷ 1 ∷ 2 ∷ 3 ∷ 4 ∷ 5 ∷ 6 ∷ 7 ∷ 8 ∷ 9 ∷ 10 ∷ [])
+names-in-letters = (names-spelled .header, names-spelled .operations, names-spelled .numbers)
 
 -- The single walk "takes root and address and tests as start does, with no track, then 8"; "its 64-bit answer is an entry's track word, 0x100000000 plus a fault, or
 -- 0x200000000 plus a refusal".
@@ -238,6 +249,13 @@ stale-exactly-when image track root acc os o access size divides only16 =
       λ e. let d = both .0 e in (d .places, d .first, d .script, d .held, d .holds, d .matching, d .other),
       λ d. both .1 (record { places = d .0; first = d .1; script = d .2; held = d .3; holds = d .4; matching = d .5; other = d .6 }),
     )
+
+-- The checker, the plain machine and every chip come to one state, of which the second half speaks.
+pub all-end-in-one-state : (image track : List ℕ) (root : ℕ) → Accepted image track root → (os : List Operation) →
+    (stateAfter (myEnd image track root os) ≡ plainEnd image track root os)
+    × ((n : ℕ) (first : List Move) (script : ℕ → List Move) →
+    last (chipStart (suc n) (fresh image root) first) (chipOf image track root os (suc n) first script) .state ≡ plainEnd image track root os)
+all-end-in-one-state image track root acc os = let x = given image track root os in (pinned .checkerEnds x acc, pinned .chipEnds x acc)
 
 -- ── Demand 3, the TLB ──
 -- "A TLB that begins empty": and makes its first moves from there.
@@ -340,6 +358,16 @@ report-shows-every-chip = honest .chip
 
 pub reports-fit : (m t l : List ℕ) → length (reportOf m t l .text) ≤ reportLimit
 reports-fit = honest .fits
+
+-- "The names `line,op,answer,value`, then line number, operation, `ok`, `fault` or `refused`, and the value. All four numbers are in hexadecimal": in letters, with a line of each
+-- kind.
+pub reports-in-letters :
+    (header ≡ quoted "line,op,answer,value\n")
+    × ((n : ℕ) → (word (ok n) ≡ quoted "ok") × (word (fault n) ≡ quoted "fault") × (word (refused n) ≡ quoted "refused"))
+    × (reportLine 0x1f (quoted "addrctx") (ok 0xabcdef01) ≡ quoted "1f,addrctx,ok,abcdef01\n")
+    × (reportLine 10 noName (refused 3) ≡ quoted "a,-,refused,3\n")
+    × (reportLine 0 startName (refused 13) ≡ quoted "0,start,refused,d\n")
+reports-in-letters = (lines-spelled .names, lines-spelled .words, lines-spelled .answer, lines-spelled .lineRefused, lines-spelled .startRefused)
 
 -- "Memory from the file `image.bin` (at most 32,768 bytes), with 8 contexts and root 0. An image file that is missing or too long counts as length 0."
 pub settings-of-the-program : (trackLength ≡ 1024 * (8 + 1)) × ((n : ℕ) → n ≤ 32768 → memoryLength n ≡ n) × ((n : ℕ) → 32768 < n → memoryLength n ≡ 0)
@@ -460,6 +488,12 @@ L7-image-to-lines-to-image = same-bytes .imageBack
 pub L7-lines-to-image-to-lines : (limit : ℕ) (l m : List ℕ) → imageOf limit l ≡ gives m → linesOf limit m ≡ gives l
 L7-lines-to-image-to-lines = same-bytes .linesBack
 
+pub L7-lines-of-one-image-are-one : (limit : ℕ) (l k m : List ℕ) → imageOf limit l ≡ gives m → imageOf limit k ≡ gives m → l ≡ k
+L7-lines-of-one-image-are-one = same-bytes .sameLines
+
+pub L7-images-are-bytes : (limit : ℕ) (l m : List ℕ) → imageOf limit l ≡ gives m → Bytes m × (lengthFits limit (length m) ≡ true)
+L7-images-are-bytes = same-bytes .images
+
 -- "Checks: 18 .. 19 .. 18 comes before 19 on each line, and the length is tested last, as line 0."
 pub L7-lines-end : (limit : ℕ) (l : List ℕ) (line n : ℕ) → (imageOf limit l ≡ refusal line n) ↔ GivenAt line n (conditionsFor limit l)
 L7-lines-end = lines-refused .exactly
@@ -479,6 +513,9 @@ L7-the-lines-of-a-file = file-written .front
 -- buffer that can hold a line, is the whole output.
 pub L7-lines-in-parts : (xs ys : List ℕ) (s : Reading) → feed (xs ++ ys) s ≡ feed ys (feed xs s)
 L7-lines-in-parts = streamed .parts
+
+pub L7-nothing-behind-a-refusal : (l : List ℕ) (s : Reading) → isDecided (s .reader) ≡ true → feed l s ≡ s
+L7-nothing-behind-a-refusal = streamed .decided
 
 pub L7-the-image-of-a-file : (d l : List ℕ) → lineMost ≤ length d →
     let bytes = output (imageOf 32768 l) in
@@ -523,6 +560,15 @@ pub L9-noted-after-every-list : (image track : List ℕ) (root : ℕ) → Accept
     noteTrack (end .memory) (end .registers .root) (end .registers .context) (end .track) ≡ end .track
 L9-noted-after-every-list image track root acc os = same-runs .noted (given image track root os) acc
 
+pub L9-the-same-step : (image track : List ℕ) (root : ℕ) → Accepted image track root → (os : List Operation) (o : Operation) →
+    let end = myEnd image track root os in runStepped o (end .registers) (end .memory) (end .track) ≡ stepped o (end .registers) (end .memory) (end .track)
+L9-the-same-step image track root acc os = same-runs .step (given image track root os) acc
+
 pub L9-the-same-runs : (image track : List ℕ) (root : ℕ) → Accepted image track root → (os : List Operation) →
     checkerRun (record { start = started; step = runStepped }) (started image track root) os ≡ myRun image track root os
 L9-the-same-runs image track root acc os = same-runs .run (given image track root os) acc
+
+-- On any lent state the two steps have the same answer, registers and memory; the track is fully noted by `stepped`, "which a single operation on a lent track still does".
+pub L9-alike-on-any-lent-state : (o : Operation) (r : Registers) (m t : List ℕ) →
+    (runStepped o r m t .answer ≡ stepped o r m t .answer) × (runStepped o r m t .registers ≡ stepped o r m t .registers) × (runStepped o r m t .memory ≡ stepped o r m t .memory)
+L9-alike-on-any-lent-state o r m t = let x = same-runs .alike o r m t in (x .answer, x .registers, x .memory)
