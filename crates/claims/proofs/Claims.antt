@@ -3,7 +3,7 @@
 -- proof cites the theorem that has it. Words that are not the reference's own are defined first; `started` and `stepped` are what the code is proved to carry out.
 use Prim.Native.Nat.{ℕ, suc, _+_, _*_, _/_, _<_, _≤_}
 use mathlib.Core.Path.{_≡_, refl}
-use mathlib.Core.Logic.{_⊎_, _↔_}
+use mathlib.Core.Logic.{_⊎_, inl, inr, _↔_}
 use mathlib.Core.Bool.{Bool, true, false, cond, not, _||_}
 use mathlib.Core.List.{List, [], _∷_, _++_, map}
 use mathlib.Core.Option.{Option, none, some}
@@ -46,23 +46,22 @@ use Rattle.permissions.proofs.Places.{at-place}
 use Rattle.text.specs.Quoted.{quoted}
 use Rattle.names.specs.Names.{names, name, kinds}
 use Rattle.names.proofs.NameCases.{spelled as names-spelled}
-use Rattle.listing.specs.Line.{lineOf}
-use Rattle.listing.specs.Whole.{lineNumber, endingNumber, finished, readList, listText, listLimit, AllValid}
+use Rattle.listing.specs.Line.{used, zeros, lineOf}
+use Rattle.listing.specs.Whole.{lineNumber, endingNumber, finished, readList, listText, AllValid, noMore, more}
 use Rattle.listing.specs.Refusals.{lineConditions, listConditions, GivenAt}
 use Rattle.listing.proofs.RefusalLaws.{refused-exactly}
 use Rattle.listing.proofs.CanonicalLaws.{canonical}
 use Rattle.report_line.specs.Text.{header, noName, startName, word, reportLine}
 use Rattle.report_line.proofs.ReportLineCases.{spelled as lines-spelled}
-use Rattle.report.specs.Report.{trackLength, memoryLength, looksAtList, AnswerLine, answerLines, answerText, endText, reportOf, reportLimit}
+use Rattle.report.specs.Report.{trackLength, memoryLength, looksAtList, AnswerLine, answerLines, answerText, endText, reportOf}
 use Rattle.report.specs.Shown.{unlessRefused}
 use Rattle.report.proofs.ShownLaws.{honest}
 use Rattle.lines.specs.Ways.{gives, refusal, lengthFits, linesOf, imageOf, output, Bytes}
 use Rattle.lines.specs.Refusals.{conditionsFor}
 use Rattle.lines.proofs.RefusalLaws.{lines-refused}
 use Rattle.lines.proofs.Theorem.{same-bytes}
-use Rattle.lines.specs.Form.{lineMost}
 use Rattle.line_writer.specs.declared.Told.the-variants.{Text}
-use Rattle.line_writer.specs.Call.{fileRoom, called as written}
+use Rattle.line_writer.specs.Call.{called as written}
 use Rattle.line_writer.proofs.Front.{file-written}
 use Rattle.line_reader.specs.declared.Told.the-variants.{Output}
 use Rattle.line_reader.specs.Reading.{State as Reading, begun, isDecided, feed, finishedFile}
@@ -213,8 +212,24 @@ accepted-lists-are-the-same-bytes = canonical .sameBytes
 pub accepted-lists-are-printed : (l : List ℕ) (os : List Operation) → readList l ≡ record { operations = os; ending = finished } → l ≡ listText os
 accepted-lists-are-printed = canonical .printed
 
-pub printed-lists-are-accepted : (os : List Operation) → AllValid os → length (listText os) ≤ listLimit → readList (listText os) ≡ record { operations = os; ending = finished }
-printed-lists-are-accepted = canonical .accepted
+-- one of a list
+unfoldable pub In : Operation → List Operation → Type 0
+In o [] = ⊥
+In o (x ∷ xs) = (x ≡ o) ⊎ In o xs
+
+-- an operation that a line can say: fields of 32 bits, and 0 where they are unused
+abbrev pub HasLine : Operation → Type 0
+HasLine o = (o .a < 0x100000000) × (o .b < 0x100000000) × (o .c < 0x100000000) × (zeros (used (o .kind)) (o .a) (o .b) (o .c) ≡ true)
+
+all-valid : (os : List Operation) → ((o : Operation) → In o os → HasLine o) → AllValid os
+unfolding In
+all-valid [] h = noMore
+all-valid (o ∷ os) h =
+    let x = h o (inl refl) in more (record { a-fits = x .0; b-fits = x .1; c-fits = x .2; unused = x .3 }) (all-valid os (λ p i. h p (inr i)))
+
+pub printed-lists-are-accepted : (os : List Operation) → ((o : Operation) → In o os → HasLine o) → length (listText os) ≤ 65536 →
+    readList (listText os) ≡ record { operations = os; ending = finished }
+printed-lists-are-accepted os h = canonical .accepted os (all-valid os h)
 
 -- ── Demand 3, the first half ──
 -- "Take every list of operations of any kind, refused ones included, after an accepted fresh start, each handed the registers that the call before returned
@@ -356,7 +371,7 @@ pub report-shows-every-chip : (m t l : List ℕ) → Accepted m t 0 → (n : ℕ
 unfolding unlessRefused
 report-shows-every-chip = honest .chip
 
-pub reports-fit : (m t l : List ℕ) → length (reportOf m t l .text) ≤ reportLimit
+pub reports-fit : (m t l : List ℕ) → length (reportOf m t l .text) ≤ 262272
 reports-fit = honest .fits
 
 -- "The names `line,op,answer,value`, then line number, operation, `ok`, `fault` or `refused`, and the value. All four numbers are in hexadecimal": in letters, with a line of each
@@ -399,6 +414,7 @@ pub L2-used-in-every-context :
     × (heldScope h ≡ global)
     × (h .context ≡ plain .registers .context → ⊥)
     × (matches h (plain .registers .context) (o .a / pageSize) ≡ true)
+    × (outcome plain (o .a) ≡ failed code)
     × (last begin (chipRun begin (unrefused (os ++ o ∷ [])) script) .answer ≡ some (ok v))
     × (last (none, fresh image root) (plainRun (fresh image root) (unrefused (os ++ o ∷ []))) .0 ≡ some (fault code)))
 L2-used-in-every-context =
@@ -413,7 +429,7 @@ L2-used-in-every-context =
       x .held,
       x .value,
       x .number,
-      (x .holds, x .shared, x .elsewhere, x .matching, x .chipAnswers, x .plainFaults),
+      (x .holds, x .shared, x .elsewhere, x .matching, x .unmapped, x .chipAnswers, x .plainFaults),
     )
 
 -- "An entry with nG clear is global: it matches every context." "`ctx` spares global entries; `addr` and `addrctx` drop the global entry of that page."
@@ -503,7 +519,7 @@ L7-lines-are-read = lines-refused .accepted
 
 -- "A program turns an image into lines": what its library puts into a buffer with room for every image file, of which n bytes were read, is the whole output under the
 -- limit of 32,768 bytes.
-pub L7-the-lines-of-a-file : (image : List ℕ) (n : ℕ) (d : List ℕ) → n ≤ length image → fileRoom ≤ length d →
+pub L7-the-lines-of-a-file : (image : List ℕ) (n : ℕ) (d : List ℕ) → n ≤ length image → 147474 ≤ length d →
     let text = output (linesOf 32768 (take n image)) in
     let call = written 32768 image n d in
     (call .told ≡ Text (length text)) × (take (length text) (call .out) ≡ text)
@@ -517,7 +533,7 @@ L7-lines-in-parts = streamed .parts
 pub L7-nothing-behind-a-refusal : (l : List ℕ) (s : Reading) → isDecided (s .reader) ≡ true → feed l s ≡ s
 L7-nothing-behind-a-refusal = streamed .decided
 
-pub L7-the-image-of-a-file : (d l : List ℕ) → lineMost ≤ length d →
+pub L7-the-image-of-a-file : (d l : List ℕ) → 17 ≤ length d →
     let bytes = output (imageOf 32768 l) in
     let read = feed l (begun d 32768) in
     let end = finishedFile (read .reader) (read .image) in
