@@ -20,6 +20,7 @@ use Rattle.model.specs.step.WalkAnswer.{walkAnswer}
 use Rattle.model.specs.declared.Registers.{Registers}
 use Rattle.model.specs.declared.Operation.{Operation}
 use Rattle.model.specs.declared.Entry.{Entry}
+use Rattle.model.specs.declared.Kind.{Kind}
 use Rattle.model.specs.declared.Kind.the-variants.{Read, Write, Addr, Ctx, AddrCtx, Fetch, Domain}
 use Rattle.model.specs.declared.Purpose.{Purpose}
 use Rattle.model.specs.Demands.{Call}
@@ -40,6 +41,8 @@ use Rattle.cases.proofs.Across.{used-across}
 use Rattle.cases.proofs.Domains.{register-forgotten, domain-remembered}
 use Rattle.cases.proofs.Sections.{section-remembered}
 use Rattle.cases.proofs.RootChanges.{root-changes}
+use Rattle.ffi.specs.Words.{kindFrom}
+use Rattle.ffi.proofs.Laws.{kind-numbers}
 use Rattle.permissions.specs.Sheet.{answer, answerAt}
 use Rattle.permissions.specs.Places.{placeOf}
 use Rattle.permissions.proofs.Places.{at-place}
@@ -61,10 +64,10 @@ use Rattle.lines.specs.Refusals.{conditionsFor}
 use Rattle.lines.proofs.RefusalLaws.{lines-refused}
 use Rattle.lines.proofs.Theorem.{same-bytes}
 use Rattle.line_writer.specs.declared.Told.the-variants.{Text}
-use Rattle.line_writer.specs.Call.{called as written}
-use Rattle.line_writer.proofs.Front.{file-written}
+use Rattle.line_writer.specs.Call.{roomFor, called as written}
+use Rattle.line_writer.proofs.Front.{written as lines-written, file-written}
 use Rattle.line_reader.specs.declared.Told.the-variants.{Output}
-use Rattle.line_reader.specs.Reading.{State as Reading, begun, isDecided, feed, finishedFile}
+use Rattle.line_reader.specs.Reading.{State as Reading, begun, isDecided, feed, ending, finished as readingEnds, finishedFile}
 use Rattle.line_reader.proofs.Streams.{streamed, file-streamed}
 
 -- ── Words ──
@@ -163,6 +166,10 @@ single-walk-ends = single-walk .exactly
 
 pub single-walk-walks : (m : List ℕ) (root a : ℕ) → ((n : ℕ) → Given n (walkConditions m root a) → ⊥) → walkAnswer m root a ≡ translationNumber (walk m root a)
 single-walk-walks = single-walk .walks
+
+-- From C an operation's kind is its place in the rules' list of operations, from 0 to 10.
+pub kinds-from-C : ((k : Kind) → kindFrom (kindNumber k) ≡ k) × ((n : ℕ) → n < 11 → kindNumber (kindFrom n) ≡ n)
+kinds-from-C = (kind-numbers .there, kind-numbers .back)
 
 -- ── Demand 2 ──
 -- "An operation carried out gives the value or fault, memory and registers of the ARMv7-A short-descriptor rules."
@@ -289,6 +296,11 @@ moves-follow-a-refused-operation = pinned .movesAfterRefused
 pub moves-follow-a-flush : (x : Moment) (o : Operation) (ms : List Move) →
     chipNext x o false ms .held ≡ moves (chipNext x o false ms .state) (map (flushPlace o) (x .held)) ms
 moves-follow-a-flush = pinned .movesAfterCarried
+
+pub moves-follow-each-operation : (x : Moment) (o : Operation) (isRefused : Bool) (ys : List (Operation × Bool)) (script : ℕ → List Move) →
+    chipRun x ((o, isRefused) ∷ ys) script
+    ≡ chipNext x o isRefused (script 0) ∷ chipRun (chipNext x o isRefused (script 0)) ys (λ i. script (suc i))
+moves-follow-each-operation = pinned .byTheScript
 
 -- what a chip of n places holds after any list, told which operations were refused, and any moves
 abbrev pub heldAfter : ℕ → State → List (Operation × Bool) → List Move → (ℕ → List Move) → Places
@@ -525,6 +537,15 @@ pub L7-the-lines-of-a-file : (image : List ℕ) (n : ℕ) (d : List ℕ) → n �
     (call .told ≡ Text (length text)) × (take (length text) (call .out) ≡ text)
 L7-the-lines-of-a-file = file-written .front
 
+-- The same for every limit, in a buffer with as much room as the image's length asks for.
+pub L7-the-lines-of-an-image : (limit : ℕ) (image : List ℕ) (n : ℕ) (d : List ℕ) → n ≤ length image → roomFor limit n ≤ length d →
+    let text = output (linesOf limit (take n image)) in
+    let call = written limit image n d in
+    (call .told ≡ Text (length text)) × (take (length text) (call .out) ≡ text)
+L7-the-lines-of-an-image limit image n d inside room =
+    let told = lines-written .enough limit image n d inside room in
+    (told, lines-written .front limit image n d (length (output (linesOf limit (take n image)))) told)
+
 -- "And another turns lines into the image, a line at a time": part by part is the whole, and what its library leaves in front of an image's buffer of 32,768 bytes, from a
 -- buffer that can hold a line, is the whole output.
 pub L7-lines-in-parts : (xs ys : List ℕ) (s : Reading) → feed (xs ++ ys) s ≡ feed ys (feed xs s)
@@ -532,6 +553,17 @@ L7-lines-in-parts = streamed .parts
 
 pub L7-nothing-behind-a-refusal : (l : List ℕ) (s : Reading) → isDecided (s .reader) ≡ true → feed l s ≡ s
 L7-nothing-behind-a-refusal = streamed .decided
+
+-- The same for every limit, which is the length of the image's buffer, where a refusal fits there: what the end of the input gives, and the whole output.
+pub L7-the-end-of-lines : (d : List ℕ) (limit : ℕ) (l : List ℕ) → 17 ≤ length d → let read = feed l (begun d limit) in ending (read .reader) (read .image) ≡ imageOf limit l
+L7-the-end-of-lines = streamed .whole
+
+pub L7-the-image-of-lines : (d : List ℕ) (limit : ℕ) (l : List ℕ) → 17 ≤ length d → 18 ≤ limit →
+    let bytes = output (imageOf limit l) in
+    let read = feed l (begun d limit) in
+    let end = readingEnds (read .reader) (read .image) in
+    (end .told ≡ Output (length bytes)) × (take (length bytes) (end .image) ≡ bytes)
+L7-the-image-of-lines = streamed .front
 
 pub L7-the-image-of-a-file : (d l : List ℕ) → 17 ≤ length d →
     let bytes = output (imageOf 32768 l) in
@@ -553,6 +585,14 @@ pub L9-untouched-stores-change-no-track-word : (image track : List ℕ) (root : 
     Untouched (end .memory) (end .registers .root) (physical e (o .a)) (o .b) →
     stepped o (end .registers) (end .memory) (end .track) .track ≡ end .track
 L9-untouched-stores-change-no-track-word image track root acc os = same-runs .untouched (given image track root os) acc
+
+-- Neither does an operation that leaves memory, root and context as they were and flushes nothing.
+pub L9-what-changes-nothing-changes-no-track-word : (image track : List ℕ) (root : ℕ) → Accepted image track root → (os : List Operation) (o : Operation) →
+    let end = myEnd image track root os in
+    let after = stepped o (end .registers) (end .memory) (end .track) in
+    after .memory ≡ end .memory → after .registers .root ≡ end .registers .root → after .registers .context ≡ end .registers .context →
+    ((u : Scope) (page : ℕ) → flushes (o .kind) o u page ≡ false) → after .track ≡ end .track
+L9-what-changes-nothing-changes-no-track-word image track root acc os = same-runs .leaves (given image track root os) acc
 
 -- The bytes "used by any present walk" are those in memory that the walk of some address of the window reads; and a walk reads no others.
 pub L9-used-by-a-present-walk : (m : List ℕ) (root b : ℕ) → Used m root b ↔ ((a : ℕ) × (a < addressLimit) × Reads m root a b × (b < length m))

@@ -1,12 +1,12 @@
 -- The chip's moves are made one after the other, before the first operation and after each, refused ones too.
-use Prim.Native.Nat.{ℕ}
+use Prim.Native.Nat.{ℕ, suc}
 use mathlib.Core.Path.{_≡_, refl}
-use mathlib.Core.Bool.{true, false}
+use mathlib.Core.Bool.{Bool, true, false}
 use mathlib.Core.Option.{none}
 use mathlib.Core.List.{List, [], _∷_, _++_, map}
 use lib.ListN.{replicate}
 use Rattle.model.specs.reference.Rules.{State, Places, Move, move, moves, flushPlace, chipStep}
-use Rattle.model.specs.reference.Runs.{Moment, chipStart, chipNext}
+use Rattle.model.specs.reference.Runs.{Moment, chipStart, chipNext, chipRun}
 use Rattle.model.specs.Types.{Operation}
 
 pub no-moves : (s : State) (ps : Places) → moves s ps [] ≡ ps
@@ -34,3 +34,8 @@ pub moves-after-carried : (x : Moment) (o : Operation) (ms : List Move) →
     chipNext x o false ms .held ≡ moves (chipNext x o false ms .state) (map (flushPlace o) (x .held)) ms
 unfolding chipNext chipStep
 moves-after-carried x o ms = refl
+
+pub moves-by-the-script : (x : Moment) (o : Operation) (b : Bool) (ys : List (Operation × Bool)) (script : ℕ → List Move) →
+    chipRun x ((o, b) ∷ ys) script ≡ chipNext x o b (script 0) ∷ chipRun (chipNext x o b (script 0)) ys (λ i. script (suc i))
+unfolding chipRun
+moves-by-the-script x o b ys script = refl

@@ -22,7 +22,7 @@ use Rattle.model.specs.Types.{Operation, Kind, Read, Write, Root, Asid, 
 use Rattle.model.proofs.BoolLaws.{and-both}
 use Rattle.model.proofs.Instance.{stateOf, outcome-page, effect-page, access-parts}
 use Rattle.model.proofs.Chips.{held, flush-leaves, free-none}
-use Rattle.model.proofs.Moves.{no-moves, one-move, moves-in-turn, moves-at-first, moves-after-refused, moves-after-carried}
+use Rattle.model.proofs.Moves.{no-moves, one-move, moves-in-turn, moves-at-first, moves-after-refused, moves-after-carried, moves-by-the-script}
 use Rattle.model.proofs.ThirdDemand.{holds-within, within-holds, same-begins, same-chip, plain-end, last-seen}
 
 -- ── What holds of the places at first, and stays so, holds of them after every run ──
@@ -303,6 +303,7 @@ pinned = record {
   movesAtFirst = moves-at-first;
   movesAfterRefused = moves-after-refused;
   movesAfterCarried = moves-after-carried;
+  byTheScript = moves-by-the-script;
   once = once;
   size = size;
   ownPage = λ o s f g e. effect-page (o .kind) o s f g (λ p q. e);

@@ -129,6 +129,9 @@ pub record Pinned : Type 0 where
   pub movesAfterRefused : (x : Moment) (o : Operation) (ms : List Move) → chipNext x o true ms .held ≡ moves (x .state) (x .held) ms
   pub movesAfterCarried : (x : Moment) (o : Operation) (ms : List Move) →
       chipNext x o false ms .held ≡ moves (chipNext x o false ms .state) (map (flushPlace o) (x .held)) ms
+  -- and after each operation of a list those that the script has for it
+  pub byTheScript : (x : Moment) (o : Operation) (b : Bool) (ys : List (Operation × Bool)) (script : ℕ → List Move) →
+      chipRun x ((o, b) ∷ ys) script ≡ chipNext x o b (script 0) ∷ chipRun (chipNext x o b (script 0)) ys (λ i. script (suc i))
   -- never two places that match one page in one context, whichever it is, and never more places than n
   pub once : (n : ℕ) (s : State) (xs : List (Operation × Bool)) (first : List Move) (script : ℕ → List Move) (i j : ℕ) (h k : Held) (c p : ℕ) →
       getD (heldBy n s xs first script) i none ≡ some h → getD (heldBy n s xs first script) j none ≡ some k →
