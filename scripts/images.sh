@@ -18,22 +18,11 @@ wrong_length() { # IMAGE
     fi
 }
 
-# For awk: `learn` takes from a row of a table of docs/FORMATS.md what a refusal means and what to do about it, and `hint` says what is unusual in a
-# line that cannot be read.
-explaining='
-    function learn(    cell) {
-        if (split($0, cell, " *[|] *") == 6 && cell[3] ~ /^`([0-9A-Z]+,)?[0-9a-f]+`$/) {
-            gsub(/[`*]/, "", cell[3]); gsub(/[`*]/, "", cell[4]); gsub(/`/, "", cell[5])
-            means[cell[3]] = cell[2] ", " cell[4] ". What to do: " cell[5]
-        }
-    }
-    function hint(line, no_text) {
-        if (line ~ /^M-oM-;M-\?/) return "; it begins with a byte-order mark: remove it"
-        if (line ~ /\^M$/) return "; it ends with a carriage return: end lines with a newline alone"
-        if (line ~ /[\^]@|M-/) return "; it is no text: " no_text
-        if (line != tolower(line)) return "; write it in lower case"
-        return ""
-    }'
+# Says of a refused image what is wrong with it, what that means and what to do, from a row of scripts/refusals.txt, which is named by its first cells.
+explain_image() { # IMAGE WRONG ROW
+    WHERE=$(called "$1") WRONG=$2 awk -F'|' -v row="$3" '
+        index($0, row "|") == 1 { gsub(/[`*]/, ""); print ENVIRON["WHERE"] ": " ENVIRON["WRONG"] ": refused: " $2 ", " $4 ". What to do: " $5 }' "$here/scripts/refusals.txt" >&2
+}
 
 # Makes the image of the lines on standard input. Afterwards the file has what the program wrote, whole: the image, or with status 1 the refusal, LINE,NUMBER. An
 # image that was cut short can have the length of another, so the program must not have said anything.
@@ -55,7 +44,7 @@ make_image() { # FILE
 
 # The text of a line of a file, as far as it is shown. The file is read no further, and no line is held: both can be of any length.
 line_of() { # FILE LINE
-    { tail -n "+$2" | head -n 1 | head -c 80 | cat -v | cut -c 1-80; } <"$1" 2>/dev/null
+    { tail -n "+$2" | head -n 1 | head -c 80 | tr '\000' '\001'; } <"$1" 2>/dev/null
 }
 
 # What is wrong with the length of the image of lines of which each is as it should be.
@@ -69,24 +58,14 @@ wrong_end() { # FILE
     fi
 }
 
-# Says of refused lines which line it is, what that means and what to do. Only a file can be read again: of another input no text is shown.
+# Says of refused lines which line and which field it is, what that means and what to do. Only a file can be read again: of another input no text is shown.
 explain_refusal() { # PATH LINE,NUMBER
-    local line=$((16#${2%,*})) where text='' more=''
-    where=$(called "$1")
-    [ "$line" -eq 0 ] || where+=:$line
+    local line=$((16#${2%,*})) text='' before='' more='' shown=no
     if [ "$1" != - ] && [ -f "$1" ]; then
-        if [ "$line" -eq 0 ]; then
-            more=$(wrong_end "$1")
-        else
-            text=$(line_of "$1" "$line")
-            where+=": $text"
-        fi
+        shown=yes
+        if [ "$line" -eq 0 ]; then more=$(wrong_end "$1"); else text=$(line_of "$1" "$line"); fi
+        [ "$line" -le 2 ] || before=$(line_of "$1" $((line - 1)))
     fi
-    WHERE=$where TEXT=$text MORE=$more awk -v refusal="$2" "$explaining"'
-        { learn() }
-        END {
-            if (!(refusal in means)) sub(/^[^,]*/, "LINE", refusal)
-            more = refusal ~ /,12$/ ? hint(ENVIRON["TEXT"], "is it an image already?") : ENVIRON["MORE"]
-            print ENVIRON["WHERE"] ": refused: " means[refusal] more
-        }' "$here/docs/FORMATS.md" >&2
+    WHERE=$(called "$1") REFUSAL=$2 NUMBER=$line TEXT=$text BEFORE=$before SHOWN=$shown MORE=$more \
+        awk -f "$here/scripts/places.awk" -f "$here/scripts/lines.awk" "$here/scripts/refusals.txt" >&2
 }

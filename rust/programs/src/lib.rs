@@ -11,8 +11,9 @@ pub use streams::{
 use std::path::{Path, PathBuf};
 use std::process::{Child, Command, Output, Stdio};
 use std::sync::atomic::{AtomicUsize, Ordering};
+use std::sync::Mutex;
 use std::thread::sleep;
-use std::time::{Duration, Instant, SystemTime};
+use std::time::{Duration, Instant};
 use std::{env, fs, process};
 
 /// The toolchain's folder: `RATTLE_HOME`, or two levels above the `rt` on PATH, links followed.
@@ -41,43 +42,28 @@ pub fn repository() -> PathBuf {
         .to_path_buf()
 }
 
-/// When a file was written, if it is there.
-fn written(path: &Path) -> Option<SystemTime> {
-    fs::metadata(path).and_then(|file| file.modified()).ok()
-}
-
-/// When the newest file in a folder was written.
-fn newest(folder: &Path) -> Option<SystemTime> {
-    let entries = fs::read_dir(folder).ok()?;
-    let paths = entries.map(|entry| entry.expect("an entry").path());
-    let times = paths.map(|path| {
-        if path.is_dir() {
-            newest(&path)
-        } else {
-            written(&path)
-        }
-    });
-    times.max().flatten()
+/// Whether a program is built of the sources of a repository, as its commands judge it.
+fn is_built(here: &Path, name: &str) -> bool {
+    let script = ". \"$here/scripts/program.sh\"; is_built \"$name\" \"$(sum_of_sources)\"";
+    let status = Command::new("bash")
+        .args(["-c", script])
+        .env("here", here)
+        .env("name", name)
+        .status();
+    status.expect("bash runs").success()
 }
 
 /// A command at the repository's top, which has the name of its program. It must not have to build
 /// that first.
 pub fn command(name: &str) -> Command {
+    static BUILT: Mutex<Vec<String>> = Mutex::new(Vec::new());
     let here = repository();
-    let target = here.join("target");
-    let checked = written(&target.join(format!("{name}.checked")));
-    let built = written(&target.join("bin").join(name)).max(checked);
-    let mut sources = written(&here.join("crates.txt"));
-    for krate in fs::read_dir(here.join("crates")).expect("crates/") {
-        let krate = krate.expect("a crate").path();
-        for part in ["src", "specs", "proofs"] {
-            sources = sources.max(newest(&krate.join(part)));
-        }
+    let mut built = BUILT.lock().expect("the programs that are built");
+    if !built.iter().any(|other| other == name) {
+        let says = format!("the program is not up to date: run ./{name}");
+        assert!(is_built(&here, name), "{says}");
+        built.push(name.to_string());
     }
-    assert!(
-        sources <= built,
-        "the program is not up to date: run ./{name}"
-    );
     Command::new(here.join(name))
 }
 

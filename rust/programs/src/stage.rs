@@ -14,12 +14,21 @@ pub struct Stage {
 }
 
 impl Stage {
-    /// For a command and the further files of the repository that it reads.
-    pub fn new(name: &'static str, files: &[&str]) -> Stage {
+    /// For a command.
+    pub fn new(name: &'static str) -> Stage {
         let folder = Folder::with_image(None);
         let stage = Stage { name, folder };
-        let shared = [name, "crates.txt", "scripts/program.sh"];
-        for file in shared.iter().chain(files) {
+        let shared = [
+            name,
+            "crates.txt",
+            "scripts/program.sh",
+            "scripts/images.sh",
+            "scripts/places.awk",
+            "scripts/report.awk",
+            "scripts/lines.awk",
+            "scripts/refusals.txt",
+        ];
+        for file in shared {
             let copied = fs::copy(repository().join(file), stage.made(file));
             copied.expect("a file of the repository");
         }
@@ -29,6 +38,7 @@ impl Stage {
         stage.script("kit/bin/rt", "echo \"rt: $*\"; exit 0");
         stage.add_source("first");
         stage.add_program(name, "cat \"$PRINTS\"");
+        stage.mark(name);
         stage
     }
 
@@ -56,6 +66,18 @@ impl Stage {
     pub fn add_program(&self, name: &str, text: &str) {
         let text = format!("[ \"${{LOADED:-}}\" = yes ] || exit 1\n{text}");
         self.script(&format!("target/bin/{name}"), &text);
+    }
+
+    /// Marks a program as built of the sources that are there.
+    pub fn mark(&self, name: &str) {
+        let script = ". scripts/program.sh; mark \"$name\" \"$(sum_of_sources)\" kit";
+        let status = Command::new("bash")
+            .args(["-c", script])
+            .env("here", ".")
+            .env("name", name)
+            .current_dir(self.folder.path())
+            .status();
+        assert!(status.expect("bash runs").success());
     }
 
     /// Adds a source: what was built before is no longer up to date.

@@ -56,7 +56,7 @@ fn each_status() {
     assert_eq!(ended(&mut command(&[&image])).0, 2);
     let (status, help, _) = ended(&mut command(&[Path::new("--help")]));
     assert_eq!(status, 0);
-    assert!(help.contains("status:"));
+    assert!(help.contains("  status  verdict\n"));
 }
 
 #[test]
@@ -66,12 +66,14 @@ fn refusals_are_explained() {
     let (status, _, error) = of_list(&list);
     assert_eq!(status, 1);
     let told: Vec<&str> = error.lines().collect();
-    assert_eq!(told.len(), 12);
+    assert_eq!(told.len(), 13);
     assert!(told[0].contains("list:3: read,1000,4,0: refused: 16, the page is stale"));
-    assert!(told[9].contains("list:12: asid,8,0,0: refused: 11, "));
+    assert!(told[9].contains("list:12:6: the second field, 8: refused: 11, "));
     assert_eq!(told[10], "replay: and 2 more");
-    let counts = "replay: lines carried out: 1, of these faulted: 0; lines refused: 12, of these as stale: 1";
+    let counts = "replay: lines carried out: 1, of these faulted: 0; lines refused: 12";
     assert_eq!(told[11], counts);
+    assert!(told[12].starts_with("not clean: 1 line stale, the first at "));
+    assert!(told[12].ends_with("list:3"));
 }
 
 #[test]
@@ -97,7 +99,7 @@ fn a_domain_register_with_a_field_of_2_is_explained() {
     let expected = format!("{HEADER}2,domain,refused,11\n");
     assert_eq!((status, report), (3, expected));
     assert!(
-        error.contains("list:2: domain,55555556,0,0: refused: 17, "),
+        error.contains("list:2:8: the second field, 55555556: refused: 17, "),
         "{error}"
     );
 }
@@ -218,7 +220,7 @@ fn output_that_cannot_be_written() {
 
 /// A stage of the command, with image A.
 fn stage() -> Stage {
-    let stage = Stage::new("replay", &["scripts/images.sh", "docs/FORMATS.md"]);
+    let stage = Stage::new("replay");
     fs::write(stage.at("image.bin"), image_a()).expect("the image");
     stage
 }

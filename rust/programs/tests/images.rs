@@ -73,6 +73,14 @@ fn no_result((status, printed, error): &Told, why: &str) {
     says(error, why);
 }
 
+/// That there is no image and no report, and why: an image is refused with one status, in either form.
+fn no_image((status, printed, error): &Told, why: &str) {
+    assert_eq!((*status, printed.as_str()), (3, ""), "{error}");
+    says(error, why);
+    let verdict = error.lines().last().unwrap_or_default();
+    assert!(verdict.starts_with("not judged: the image "), "{error}");
+}
+
 /// Image A and its lines, and the command that makes one of the other. No byte of image A is above
 /// 0x7f, so that it is a text.
 fn both_ways() -> [(&'static str, Vec<u8>, String); 2] {
@@ -142,22 +150,47 @@ fn files_streams_and_links() {
 }
 
 /// What is said of other names than `at,word`.
-const OTHER_NAMES: [(&str, &str); 6] = [
-    ("", ":1: : refused: 18, the first line is not"),
+const OTHER_NAMES: [(&str, &str); 7] = [
+    ("", ":1: empty: refused: 18, the first line is not"),
     ("op,a,b,c\n", ":1: op,a,b,c: refused: 18, the first"),
-    ("\0\0", ":1: ^@^@: refused: 18, the first line is"),
-    ("\0\0", "; it is no text: is it an image already?"),
-    ("at,word\r\n", "; it ends with a carriage return"),
-    ("\u{feff}at,word\n", "; it begins with a byte-order mark"),
+    ("\0\0", ":1: ??: it is no text: is it an image"),
+    ("\0\0", ": refused: 18, the first line is not"),
+    ("at,word\r\n", ": it ends with a carriage return"),
+    ("at,word", ":1: at,word: it has no newline: refused: 18"),
+    ("\u{feff}at,word\n", ": it begins with a byte-order mark"),
 ];
 
 /// Lines that are refused behind the names, what is printed, and what is said.
-const REFUSED: [(&str, &str, &str); 8] = [
-    ("ffc,1\nzz", "3,12", ":3: zz: refused: 18, the line is"),
-    ("0,AB\n", "2,12", ":2: 0,AB: refused: 18, the line is"),
-    ("0,AB\n", "2,12", "; write it in lower case"),
-    ("0,0\n4,1\n", "2,13", ":2: 0,0: refused: 19, the add"),
-    ("4,1\n4,2\n", "3,13", ":3: 4,2: refused: 19, the add"),
+const REFUSED: [(&str, &str, &str); 12] = [
+    ("ffc,1\nzz", "3,12", ":3: zz: the line has 1 field, not"),
+    ("0,AB\n", "2,12", ":2:3: the second field, AB: a value"),
+    ("0,AB\n", "2,12", "is written in lower case: refused: 18"),
+    ("00,AB\n", "2,12", ":2:1: the first field, 00: a value has"),
+    (
+        "0,0\n4,1\n",
+        "2,13",
+        ":2:3: the second field, 0: the word is 0, and more follows: refused: 19, ",
+    ),
+    (
+        "4,1\n4,2\n",
+        "3,13",
+        ":3:1: the first field, 4: it is not above the address before, 4: refused: 19, ",
+    ),
+    (
+        "10,1\nc,2\n",
+        "3,13",
+        ":3:1: the first field, c: it is not above the address before, 10: refused: 19, ",
+    ),
+    (
+        "c,1\n10,0\n14,0\n",
+        "3,13",
+        ":3:4: the second field, 0: the word is 0, and more follows: refused: 19, ",
+    ),
+    (
+        "1,1\n",
+        "2,13",
+        ":2:1: the first field, 1: it is not a multiple of 4: refused: 19, ",
+    ),
     ("", "0,13", "input: refused: 19, the length of the"),
     ("", "0,13", "; no line follows the names"),
     ("1000,1\n", "0,13", "the image would have 4100 bytes"),
@@ -175,7 +208,10 @@ fn refused_lines_are_explained() {
     }
     let long = "a".repeat(200);
     let (_, _, error) = of_file("to_image", named(&format!("0,1\n{long}\n")));
-    says(&error, &format!(":3: {}: refused: 18, ", &long[..80]));
+    says(
+        &error,
+        &format!(":3: {}: the line has 1 field", &long[..40]),
+    );
 }
 
 /// A pipe cannot be read again: the text of the line is not shown.
@@ -199,11 +235,10 @@ fn refused_lines_give_no_report() {
     for (lines, _, words) in REFUSED {
         let (_folder, file) = folder_with(named(lines));
         let told = ended(&mut replay(&file));
-        no_result(&told, "the lines of the image are refused");
-        says(&told.2, words);
+        no_image(&told, words);
     }
     let told = told(&fed(&mut replay(Path::new("-")), [named("zz\n")]));
-    no_result(&told, "standard input:2: refused: 18, ");
+    no_image(&told, "standard input:2: refused: 18, ");
 }
 
 /// What begins with `at,word` is lines, and nothing else is. An image that begins so is given as lines.
@@ -212,7 +247,7 @@ fn which_form_it_is() {
     for text in ["at,word", "at,words\nffc,1\n"] {
         let (_folder, file) = folder_with(text);
         let told = ended(&mut replay(&file));
-        no_result(&told, "is given as lines");
+        no_image(&told, "is given as lines");
         says(&told.2, "refused: 18, the first line is not");
     }
     for text in ["", "at,wor", "at,wird\nffc,1\n", " at,word\nffc,1\n"] {
@@ -225,7 +260,7 @@ fn which_form_it_is() {
     image[..7].copy_from_slice(b"at,word");
     let (_folder, file) = folder_with(&image);
     let bytes = ended(&mut replay(&file));
-    no_result(&bytes, "input:1: at,word^@^@");
+    no_image(&bytes, "input:1: at,word??");
     let lines = ended(&mut command("to_lines", &[&file])).1;
     fs::write(&file, &lines).expect("the lines");
     assert_eq!(ended(&mut replay(&file)).0, 3, "{lines}");
@@ -257,13 +292,13 @@ fn lines_without_end() {
     let open = with_open_pipe(&mut to_image, refused.as_bytes());
     assert_eq!((open.0, open.1.as_str()), (3, "2,12\n"));
     let open = with_open_pipe(&mut replay, refused.as_bytes());
-    no_result(&open, "standard input:2: refused: 18, ");
+    no_image(&open, "standard input:2: refused: 18, ");
     let (mut to_image, mut replay) = commands();
     let endless = || once(refused.as_str()).chain(repeat("0,1\n"));
     let flowing = told(&fed(&mut to_image, endless()));
     assert_eq!((flowing.0, flowing.1.as_str()), (3, "2,12\n"));
     let flowing = told(&fed(&mut replay, endless()));
-    no_result(&flowing, "standard input:2: refused: 18, ");
+    no_image(&flowing, "standard input:2: refused: 18, ");
 }
 
 /// Lines of more than any image are judged to their end.
@@ -281,11 +316,11 @@ fn many_lines() {
     fs::write(&file, &text).expect("the lines");
     let (status, printed, error) = ended(&mut command("to_image", &[&file]));
     assert_eq!((status, printed.as_str()), (3, "186a2,12\n"));
-    let words = "input:100002: zz: refused: 18, ";
+    let words = "input:100002: zz: the line has 1 field, not two: refused: 18, ";
     says(&error, words);
-    no_result(&ended(&mut replay(&file)), words);
+    no_image(&ended(&mut replay(&file)), words);
     let told = told(&fed(&mut replay(Path::new("-")), [&text]));
-    no_result(&told, "standard input:100002: refused: 18, ");
+    no_image(&told, "standard input:100002: refused: 18, ");
 }
 
 #[test]
@@ -346,7 +381,7 @@ fn outputs_that_cannot_be_written() {
 
 /// A stage of a command, with image A and its lines.
 fn stage(name: &'static str) -> Stage {
-    let stage = Stage::new(name, &["scripts/images.sh", "docs/FORMATS.md"]);
+    let stage = Stage::new(name);
     fs::write(stage.at("image.bin"), image_a()).expect("the image");
     fs::write(stage.at("image.lines"), LINES_OF_A).expect("the lines");
     stage
@@ -428,24 +463,25 @@ fn the_second_program() {
     let staged = |image: &str| {
         let files = [stage.at(image), stage.at("list")];
         let (status, printed, error) = ended(stage.command(report).args(files));
-        assert_eq!(printed, if status == 2 { "" } else { report }, "{error}");
+        assert_eq!(printed, if status == 0 { report } else { "" }, "{error}");
         (status, printed, error)
     };
     assert_eq!(staged("image.bin").0, 0);
     no_result(&staged("image.lines"), "to_image' built no program");
     for (program, why) in [
         ("head -c 5000 /dev/zero", "replay: the image was cut short"),
-        ("echo 3,12", "image.lines:3: 400,812: refused: 18, "),
         ("exit 1", "replay: the program ended with status 1"),
     ] {
         stage.add_program("to_image", program);
         no_result(&staged("image.lines"), why);
     }
+    stage.add_program("to_image", "echo 3,12");
+    no_image(&staged("image.lines"), "image.lines:3: ");
     stage.add_program("to_image", "head -c 4096 /dev/zero");
     assert_eq!(staged("image.lines").0, 0);
     stage.script("kit/bin/rt", "echo \"rt: $2 NOT PROVED\"; exit 1");
     stage.add_source("newer");
-    stage.add_program("replay", "cat \"$PRINTS\"");
+    stage.mark("replay");
     assert_eq!(staged("image.bin").0, 0);
     no_result(&staged("image.lines"), "rt: to_image NOT PROVED");
 }

@@ -138,7 +138,7 @@ fn unknown_arguments() {
 /// With a program that prints other than 384 answers the command has no result.
 #[test]
 fn answers_cut_short() {
-    let stage = Stage::new("rights", &[]);
+    let stage = Stage::new("rights");
     let whole = sheet();
     assert_eq!(ended(&mut stage.command(&whole)), answers());
     for wrong in [
