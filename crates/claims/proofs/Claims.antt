@@ -21,7 +21,7 @@ use Rattle.model.specs.declared.Registers.{Registers}
 use Rattle.model.specs.declared.Operation.{Operation}
 use Rattle.model.specs.declared.Entry.{Entry}
 use Rattle.model.specs.declared.Kind.{Kind}
-use Rattle.model.specs.declared.Kind.the-variants.{Read, Write, Addr, Ctx, AddrCtx, Fetch, Domain}
+use Rattle.model.specs.declared.Kind.the-variants.{Read, Write, All, Addr, Ctx, AddrCtx, Fetch, Domain}
 use Rattle.model.specs.declared.Purpose.{Purpose}
 use Rattle.model.specs.Demands.{Call}
 use Rattle.model.specs.Invisible.{Session, isAccess, alignedAccess}
@@ -37,6 +37,7 @@ use Rattle.runs.specs.Quiet.{quiet}
 use Rattle.runs.specs.Step.{runStepped}
 use Rattle.runs.proofs.Walks.{used-by-walks}
 use Rattle.runs.proofs.SameRuns.{quiet-stores, same-runs}
+use Rattle.runs.proofs.Cuts.{cuts}
 use Rattle.cases.proofs.Across.{used-across}
 use Rattle.cases.proofs.Domains.{register-forgotten, domain-remembered}
 use Rattle.cases.proofs.Sections.{section-remembered}
@@ -628,3 +629,14 @@ L9-the-same-runs image track root acc os = same-runs .run (given image track roo
 pub L9-alike-on-any-lent-state : (o : Operation) (r : Registers) (m t : List ℕ) →
     (runStepped o r m t .answer ≡ stepped o r m t .answer) × (runStepped o r m t .registers ≡ stepped o r m t .registers) × (runStepped o r m t .memory ≡ stepped o r m t .memory)
 L9-alike-on-any-lent-state o r m t = let x = same-runs .alike o r m t in (x .answer, x .registers, x .memory)
+
+-- ── Where a list may be cut ──
+-- Directly behind an `all` that is carried out while the registers are those of a start. What follows it in the whole run is, operation by operation, what it is in a run of its own, which a start with that root begins
+-- from the memory as it is there, whatever the track holds that it is lent.
+pub a-list-may-be-cut-behind-all : (image track : List ℕ) (root : ℕ) (os : List Operation) (o : Operation) (ps : List Operation) (again : ℕ) (lent : List ℕ) →
+    let end = myEnd image track root os in
+    let second = started (end .memory) lent again in
+    o .kind ≡ All → end .registers ≡ (record { root = again; context = 0; mode = 0; domains = 0x55555555 }) →
+    isRefused (shown (stepped o (end .registers) (end .memory) (end .track) .answer)) ≡ false → length lent ≡ length track →
+    myRun image track root (os ++ (o ∷ ps)) ≡ myRun image track root os ++ (second ∷ checkerRun mine second ps)
+a-list-may-be-cut-behind-all image track root os = cuts .parts (given image track root os)

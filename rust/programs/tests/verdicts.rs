@@ -164,7 +164,7 @@ fn the_sentences_stand_in_one_file() {
 #[test]
 fn advice_is_for_the_build() {
     for number in 1..=20 {
-        if [14, 18, 19].contains(&number) {
+        if [18, 19].contains(&number) {
             continue;
         }
         let advice = advice(&number.to_string());
