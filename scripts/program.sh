@@ -86,6 +86,7 @@ prove() { # PROGRAM LOG
 
 # Waits until no other command builds here. The lock is descriptor 8, which all that a build starts inherits: an interrupted build holds it to the end of its last part.
 lock() {
+    [ -f "$here/crates.txt" ] || fail "nothing can be built here: there is no crates.txt ($here)"
     { exec 8<>"$here/crates.txt"; } 2>/dev/null || fail "nothing can be built here: the checkout cannot be written ($here)"
     flock -n 8 || {
         echo "$name: another command is building; this one waits for it" >&2
