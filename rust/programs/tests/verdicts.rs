@@ -191,6 +191,12 @@ fn stored(mut image: Vec<u8>, at: usize, word: u32) -> Vec<u8> {
     image
 }
 
+/// An image of zeros but for these words.
+fn image_of(length: usize, words: &[(usize, u32)]) -> Vec<u8> {
+    let place = |image, &(at, word): &(usize, u32)| stored(image, at, word);
+    words.iter().fold(vec![0; length], place)
+}
+
 /// The list of the advice on refusal 1: too long, with one `all` behind which it may be cut, and the stale lines behind that. Cut there, its second part is
 /// still not clean. Cut behind the store, as no advice says, no part is stale.
 #[test]
@@ -228,8 +234,7 @@ fn a_large_image() {
         (0x9000, 7),
         (0xa000, 8),
     ];
-    let place = |image, (at, word)| stored(image, at, word);
-    let image = words.into_iter().fold(vec![0; 0x10000], place);
+    let image = image_of(0x10000, &words);
     let list = format!("{NAMES}read,1000,4,0\nwrite,4,4,a832\nread,1000,4,0\n");
     let line = |(at, word)| format!("{at:x},{word:x}\n");
     let lines = words.map(line).concat();
@@ -256,8 +261,7 @@ fn tables_that_are_not_at_0() {
         (0x4404, 0x3832),
         (0x3000, 7),
     ];
-    let place = |image, (at, word)| stored(image, at, word);
-    let image = words.into_iter().fold(vec![0; 0x8000], place);
+    let image = image_of(0x8000, &words);
     let begun = of(
         &image,
         &format!("{NAMES}root,4000,0,0\nall,0,0,0\nread,1000,4,0\n"),
