@@ -10,11 +10,13 @@ ghost use Rattle.model.specs.step.Machine.{sizeOf, permissionFaultOf, domainFau
 use model::Access;
 use model::Entry;
 use model::Fault;
+use model::OLD_WINDOW;
 use model::Outcome;
 use model::Purpose;
 use model::Registers;
 use model::Ruling;
 use model::Size;
+use model::Tables;
 
 // The field of a domain in a domain register.
 pub fn field_of(domains: u32, domain: u32) -> u32
@@ -131,7 +133,7 @@ pub fn access_at(r: Registers, m: &[u8], t: &[u32], purpose: Purpose, size: Size
     ensures { λ x. ⌜ Tells accessResult (accessAt r (now (m .entry)) (now (t .entry)) purpose size a) x ⌝ }
 {
     let page = a as usize / 4096; // pageSize
-    let o = walk::walk(m, r.root, page);
-    let stale = track::is_stale_page(t, r.context, page, o);
+    let o = walk::walk(m, Tables { root: r.root }, page);
+    let stale = track::is_stale_page(OLD_WINDOW, t, r.context, page, o);
     decide(o, stale, r, purpose, size, a, m)
 }

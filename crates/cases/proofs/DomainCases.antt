@@ -6,15 +6,15 @@ use mathlib.Core.Bool.{true, cond}
 use mathlib.Core.List.{List, [], _∷_, _++_}
 use lib.Dec.{eqb}
 use lib.ListN.{replicate, set}
+use Rattle.model.specs.reference.Rules.{rooted}
 use Rattle.model.specs.step.Rights.{permitted, fieldAt, rulingOf}
-use Rattle.model.specs.step.Track.{wordAt}
 use Rattle.model.specs.step.Machine.{After, started}
 use Rattle.model.specs.declared.Kind.the-variants.{Read, Write, Asid, Mode, Addr, Fetch, Domain}
 use Rattle.model.specs.declared.Purpose.{Purpose}
 use Rattle.model.specs.declared.Purpose.the-variants.{ToRead, ToWrite, ToFetch}
 use Rattle.model.specs.declared.Ruling.{Ruling}
 use Rattle.model.specs.declared.Ruling.the-variants.{Allowed, PermissionDenied, DomainDenied}
-use Rattle.model.proofs.CaseTools.{allMatch, put, zeros, next, faultCode, refusalCode, answered}
+use Rattle.model.proofs.CaseTools.{allMatch, put, zeros, next, faultCode, refusalCode, answered, trackAt}
 use Rattle.cases.proofs.GlobalCases.{givenWith}
 use Rattle.cases.proofs.SplitCases.{asSection, asPages, changing}
 
@@ -173,7 +173,7 @@ behindStale image track =
     let z = next Read 0x100010 4 0 (givenWith 0x15555555 0x80 1 0 image track) in
     three x 0x100010 (refusalCode 16, refusalCode 16, refusalCode 16)
     ++ three y 0x100010 (refusalCode 16, refusalCode 16, refusalCode 16)
-    ++ (wordAt (z .track) 1 0x100, 0x63E) ∷ (wordAt (z .track) 2 0x300, 0x7BE)
+    ++ (trackAt (z .track) 1 0x100, 0x63E) ∷ (trackAt (z .track) 2 0x300, 0x7BE)
     ∷ (z .registers .root, 0x80) ∷ (z .registers .context, 1) ∷ (z .registers .mode, 0) ∷ (z .registers .domains, 0x15555555)
     ∷ []
 
@@ -183,7 +183,7 @@ behindStale image track =
 opened : List ℕ → List (ℕ × ℕ)
 unfolding next
 opened image =
-    let both = next Asid 1 0 0 (started image (replicate 3072 7) 0x80) in
+    let both = next Asid 1 0 0 (started image (replicate 3072 7) (rooted 0x80)) in
     let closed = next Domain 0x15555555 0 0 both in
     let manager = next Domain 0xD5555555 0 0 closed in
     let user = next Mode 1 0 0 manager in
@@ -198,8 +198,8 @@ opened image =
     ++ three (next Asid 0 0 0 manager) 0x101010 allowed
     ++ three (next Domain 0x55555555 0 0 manager) 0x101010 (stopped 0xF)
     -- the words of pages 0x100 and 0x300 in context 0, context 1 and the global row
-    ++ (wordAt (manager .track) 0 0x100, 0x63E) ∷ (wordAt (manager .track) 1 0x100, 0x63E) ∷ (wordAt (manager .track) 2 0x300, 0x7BE)
-    ∷ (wordAt (both .track) 0 0x100, 0x63E) ∷ (wordAt (both .track) 1 0x100, 0x63E) ∷ (wordAt (both .track) 2 0x300, 0x7BE)
+    ++ (trackAt (manager .track) 0 0x100, 0x63E) ∷ (trackAt (manager .track) 1 0x100, 0x63E) ∷ (trackAt (manager .track) 2 0x300, 0x7BE)
+    ∷ (trackAt (both .track) 0 0x100, 0x63E) ∷ (trackAt (both .track) 1 0x100, 0x63E) ∷ (trackAt (both .track) 2 0x300, 0x7BE)
     -- what closes page 0 closes the tables: the map can't be written until it is opened
     ∷ (answered (next Write 0x84 4 0x9C1 (next Domain 0x55555554 0 0 both)), faultCode 0xB)
     ∷ []
@@ -214,7 +214,7 @@ pagesFrom p (suc n) = p ∷ pagesFrom (suc p) n
 -- each of these pages has several entries in a row; a read of each is refused as stale
 abbrev severalOf : ℕ → List ℕ → After → List (ℕ × ℕ)
 severalOf c [] x = []
-severalOf c (p ∷ ps) x = (wordAt (x .track) c p, 1) ∷ severalOf c ps x
+severalOf c (p ∷ ps) x = (trackAt (x .track) c p, 1) ∷ severalOf c ps x
 
 abbrev staleEach : List ℕ → After → List (ℕ × ℕ)
 staleEach [] x = []
@@ -225,7 +225,7 @@ staleEach (p ∷ ps) x = (answered (next Read (p * 4096 + 0x10) 4 0 x), refusalC
 redomained : List ℕ → List (ℕ × ℕ)
 unfolding next
 redomained image =
-    let both = next Asid 1 0 0 (started image (replicate 3072 7) 0x80) in
+    let both = next Asid 1 0 0 (started image (replicate 3072 7) (rooted 0x80)) in
     let pointer = next Write 0x84 1 0xC1 both in
     let section = next Write 0x8C 1 0xC2 both in
     let mapped : List ℕ = 0x100 ∷ 0x101 ∷ 0x102 ∷ 0x103 ∷ 0x104 ∷ 0x110 ∷ [] in
@@ -234,11 +234,11 @@ redomained image =
     ∷ severalOf 1 mapped pointer
     ++ staleEach mapped pointer
     ++ staleEach mapped (next Asid 0 0 0 pointer)
-    ++ (wordAt (pointer .track) 0 0x100, 0x63E) ∷ (wordAt (pointer .track) 0 0x110, 0x3E)
+    ++ (trackAt (pointer .track) 0 0x100, 0x63E) ∷ (trackAt (pointer .track) 0 0x110, 0x3E)
     ∷ (answered (next Read 0x105010 4 0 pointer), faultCode 0x7) ∷ (answered (next Read 0x10 4 0 pointer), 0x44332211)
     ∷ (answered (next Read 0x300010 4 0 pointer), 0x44332211)
     -- a page flushed is trusted again, in both contexts, by the new domain: 14's field is 1, and then 0
-    ∷ (wordAt (flushed .track) 1 0x100, 0x63A) ∷ (answered (next Read 0x100010 4 0 flushed), 0x44332211)
+    ∷ (trackAt (flushed .track) 1 0x100, 0x63A) ∷ (answered (next Read 0x100010 4 0 flushed), 0x44332211)
     ∷ (answered (next Read 0x100010 4 0 (next Asid 0 0 0 flushed)), 0x44332211)
     ∷ (answered (next Read 0x100010 4 0 (next Domain 0x45555555 0 0 flushed)), faultCode 0xB)
     ∷ (answered (next Read 0x101010 4 0 flushed), refusalCode 16)
@@ -248,7 +248,7 @@ redomained image =
     ++ staleEach (0x300 ∷ 0x3FF ∷ []) section
     ++ staleEach (0x300 ∷ 0x3FF ∷ []) (next Asid 0 0 0 section)
     -- another bit that is ignored, bit 9 of a pointer, changes nothing
-    ++ (wordAt (next Write 0x85 1 0xB both .track) 1 0x100, 0x63E) ∷ (answered (next Read 0x100010 4 0 (next Write 0x85 1 0xB both)), 0x44332211)
+    ++ (trackAt (next Write 0x85 1 0xB both .track) 1 0x100, 0x63E) ∷ (answered (next Read 0x100010 4 0 (next Write 0x85 1 0xB both)), 0x44332211)
     ∷ []
 
 -- a section's word and a pointer's with a whole table, from domain 0 to 5 and back, and through bit 8 to domain 8: as for every other change

@@ -6,8 +6,9 @@ use mathlib.Core.Bool.{true}
 use mathlib.Core.Option.{Option, some}
 use mathlib.Core.List.{List, [], _∷_}
 use lib.ListN.{replicate}
+use Rattle.model.specs.Limits.{rowSize}
 use Rattle.model.specs.Numbers.{Result, ok, fault, refused, shown}
-use Rattle.model.specs.reference.Rules.{fresh, access, translated, touched, stored, aligned, among, accessSize, mayRead, mayWrite, permits, fieldOf, ruling, ruled, permissionFault, domainFault, rightOf, physical, outcome, setRegisters, effect, carriedOut, plainStep, scopeOf, covers, flushes, heldScope, matches, heldFor, anyClash, load, isFree, putIn, move, moves, orWalk, chipOutcome, flushPlace, chipStep, walk, descriptor, tableWord, globalBy, domainOf, section, bits, value, inMemory}
+use Rattle.model.specs.reference.Rules.{fresh, access, translated, touched, stored, aligned, among, accessSize, mayRead, mayWrite, permits, fieldOf, ruling, ruled, permissionFault, domainFault, rightOf, physical, outcome, setRegisters, effect, carriedOut, plainStep, scopeOf, covers, flushes, heldScope, matches, heldFor, anyClash, load, isFree, putIn, move, moves, orWalk, chipOutcome, flushPlace, chipStep, walk, descriptor, tableWord, globalBy, domainOf, section, bits, value, inMemory, rooted}
 use Rattle.model.specs.reference.Runs.{last, next, checkerRun, isRefused, plainRun, chipStart, chipNext, chipRun}
 use Rattle.model.specs.Invisible.{Session, Accepted, isAccess, alignedAccess, atEnd, plainLast, chipLast, CouldDiffer, checker}
 use Rattle.model.specs.declared.Operation.{Operation}
@@ -31,7 +32,7 @@ redomain : Operation
 redomain = record { kind = Write; a = 0x80; b = 1; c = 0x22 }
 
 pub changed : Session
-changed = record { image = image 2; track = replicate 2048 0; root = 0x80; operations = redomain ∷ [] }
+changed = record { image = image 2; track = replicate 2048 0; setting = rooted 0x80; operations = redomain ∷ [] }
 
 accepted : Accepted checker changed
 unfolding changed isRefused stepOn
@@ -52,10 +53,10 @@ domain-witness = could-differ changed accepted readPage2 read-aligned refused-16
 
 -- the last answer of a chip that loaded page 2 at first, and of the plain machine, told that nothing was refused
 abbrev chipAnswer : ℕ → List Operation → Option Result
-chipAnswer low os = chipLast (image low) 0x80 os 1 (load 0 2 ∷ []) (λ i. []) .answer
+chipAnswer low os = chipLast (image low) (rooted 0x80) os 1 (load 0 2 ∷ []) (λ i. []) .answer
 
 abbrev plainAnswer : ℕ → List Operation → Option Result
-plainAnswer low os = plainLast (image low) 0x80 os .0
+plainAnswer low os = plainLast (image low) (rooted 0x80) os .0
 
 -- the low byte overwritten, the domain register set, page 2 read
 abbrev after : ℕ → ℕ → List Operation
@@ -70,7 +71,7 @@ pub record OldDomainDecides : Type 0 where
 
 pub old-domain-decides : OldDomainDecides
 unfolding last plainRun plainStep carriedOut effect setRegisters access translated touched stored aligned accessSize among mayRead mayWrite permits
-    fieldOf ruling ruled permissionFault domainFault rightOf physical fresh chipStart chipRun chipNext chipStep chipOutcome orWalk heldFor moves move isFree
+    fieldOf ruling ruled permissionFault domainFault rightOf physical fresh chipStart chipRun chipNext chipStep chipOutcome orWalk heldFor moves move rowSize isFree
     anyClash putIn outcome walk descriptor tableWord section globalBy domainOf bits value inMemory heldScope scopeOf covers matches flushPlace flushes
 old-domain-decides = record { reads = refl; plainFaults = refl; faults = refl; plainReads = refl }
 
@@ -89,6 +90,6 @@ pub record RegisterOfNow : Type 0 where
 
 pub register-of-now : RegisterOfNow
 unfolding last plainRun plainStep carriedOut effect setRegisters access translated touched stored aligned accessSize among mayRead mayWrite permits
-    fieldOf ruling ruled permissionFault domainFault rightOf physical fresh chipStart chipRun chipNext chipStep chipOutcome orWalk heldFor moves move isFree
+    fieldOf ruling ruled permissionFault domainFault rightOf physical fresh chipStart chipRun chipNext chipStep chipOutcome orWalk heldFor moves move rowSize isFree
     anyClash putIn outcome walk descriptor tableWord section globalBy domainOf bits value inMemory heldScope scopeOf covers matches flushPlace flushes
 register-of-now = record { closed = refl; plainClosed = refl; client = refl; plainClient = refl; manager = refl; plainManager = refl }

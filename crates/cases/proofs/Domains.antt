@@ -1,15 +1,15 @@
 -- A TLB never remembers the domain register, and always the domain of a descriptor.
-use Prim.Native.Nat.{ℕ, suc, _+_, _*_, _-_, _/_, _%_, _<_, _≤_}
+use Prim.Native.Nat.{ℕ, _+_, _*_, _-_, _/_, _%_, _<_}
 use mathlib.Core.Path.{_≡_, refl, sym, ap, ap₂, _∙_}
 use mathlib.Core.Bool.{Bool, true, false, cond, not, _&&_, or-true}
 use mathlib.Core.List.{List, [], _∷_, foldl}
 use native.Mathlib.Omega.{arith}
-use lib.Dec.{eqb, ltb}
-use lib.ListN.{length, getD}
-use borrow.Author.Tests.{eqb-true, ltb-false}
-use Rattle.model.specs.Limits.{pageSize, rowSize}
+use lib.Dec.{eqb}
+use borrow.Author.Tests.{eqb-true}
+use Rattle.runs.proofs.SameLaws.{same-tracks}
+use Rattle.model.specs.Limits.{pageSize, rowSize, oldWindow}
 use Rattle.model.specs.Numbers.{Result, shown}
-use Rattle.model.specs.reference.Rules.{Translation, found, failed, inMemory, value, bits, descriptor, globalBy, domainOf, section, largePage, smallPage, pageWord, tableWord, State, setRegisters, effect, outcome, carriedOut, Scope, own, global, covers, flushes, Places, Move, drop, load, move, moves, chipOutcome, chipStep, one, kept, same, differs, notedIn, wordAfter, contexts, rowOf, hasRow, trackWord, stale}
+use Rattle.model.specs.reference.Rules.{Translation, found, failed, inMemory, value, bits, descriptor, globalBy, domainOf, section, largePage, smallPage, pageWord, tableWord, State, setRegisters, effect, outcome, carriedOut, Scope, own, global, covers, flushes, Places, Move, drop, load, move, moves, chipOutcome, chipStep, one, kept, same, differs, notedIn, wordAfter, hasRow, trackWord, stale}
 use Rattle.model.specs.reference.Runs.{isRefused}
 use Rattle.model.specs.Demands.{after}
 use Rattle.model.specs.Invisible.{atEnd, checker}
@@ -24,61 +24,12 @@ use Rattle.model.proofs.Kept.{callAt, not-given}
 use Rattle.runs.specs.Noted.{Noted}
 use Rattle.runs.proofs.Noted.{left-alone, noted-at-end}
 
--- ── The track, word by word ──
-
--- lists of one length with the same numbers are the same
-same-list : (l k : List ℕ) → length l ≡ length k → ((i : ℕ) → i < length l → getD l i 0 ≡ getD k i 0) → l ≡ k
-same-list [] [] e h = refl
-same-list [] (y ∷ ys) e h = absurd (let z : ⊥ = omega (arith, e) in z)
-same-list (x ∷ xs) [] e h = absurd (let z : ⊥ = omega (arith, e) in z)
-same-list (x ∷ xs) (y ∷ ys) e h =
-    ap₂ _∷_ (h 0 (omega arith)) (same-list xs ys (omega (arith, e)) (λ i q. h (suc i) (omega (arith, q))))
-
--- the scope of a row
-scopeAt : List ℕ → ℕ → Scope
-scopeAt t row = cond (ltb row (contexts t)) (own row) global
-
--- each word of a track of whole rows is that of a scope and a page
-row-of : (t v : List ℕ) (row : ℕ) → contexts v ≡ contexts t → row ≤ contexts t → rowOf v (scopeAt t row) ≡ row
-unfolding scopeAt rowOf
-row-of t v row e h = go (ltb row (contexts t)) refl
-  where
-    go : (b : Bool) → ltb row (contexts t) ≡ b → rowOf v (cond b (own row) global) ≡ row
-    go true q = refl
-    go false q = e ∙ (let z : contexts t ≡ row = omega (arith, ltb-false row (contexts t) q, h) in z)
-
-has-row : (t : List ℕ) (row : ℕ) → hasRow t (scopeAt t row) ≡ true
-unfolding scopeAt hasRow
-has-row t row = go (ltb row (contexts t)) refl
-  where
-    go : (b : Bool) → ltb row (contexts t) ≡ b → hasRow t (cond b (own row) global) ≡ true
-    go true q = q
-    go false q = refl
-
-same-track : (t v : List ℕ) → length v ≡ length t → length t ≡ rowSize * (contexts t + 1) →
-    ((u : Scope) (p : ℕ) → hasRow t u ≡ true → p < rowSize → trackWord v u p ≡ trackWord t u p) → v ≡ t
-unfolding trackWord
-same-track t v e w h = same-list v t e each
-  where
-    count : contexts v ≡ contexts t
-    count = unfold contexts in ap (λ n. n / rowSize - 1) e
-
-    each : (i : ℕ) → i < length v → getD v i 0 ≡ getD t i 0
-    each i q =
-        let row : ℕ = i / rowSize in
-        let p : ℕ = i % rowSize in
-        let within : row ≤ contexts t = omega (arith, q, e, w) in
-        let at : rowSize * row + p ≡ i = omega arith in
-        let in-v : rowSize * rowOf v (scopeAt t row) + p ≡ i = ap (λ n. rowSize * n + p) (row-of t v row count within) ∙ at in
-        let in-t : rowSize * rowOf t (scopeAt t row) + p ≡ i = ap (λ n. rowSize * n + p) (row-of t t row refl within) ∙ at in
-        ap (λ n. getD v n 0) (sym in-v) ∙ h (scopeAt t row) p (has-row t row) (omega arith) ∙ ap (λ n. getD t n 0) in-t
-
 -- ── The register ──
 
-module _ (s : State) (t : List ℕ) (n : Noted s t) (a b c : ℕ) where
+module _ (s : State) (t : List ℕ) (n : Noted oldWindow s t) (a b c : ℕ) where
   -- one word after `domain`
-  word-kept : isRefused (shown (after (callAt s t (toDomains a b c)) .answer)) ≡ false → (u : Scope) (p : ℕ) → hasRow t u ≡ true → p < rowSize →
-      trackWord (after (callAt s t (toDomains a b c)) .track) u p ≡ trackWord t u p
+  word-kept : isRefused (shown (after (callAt s t (toDomains a b c)) .answer)) ≡ false → (u : Scope) (p : ℕ) → hasRow oldWindow t u ≡ true → p < rowSize oldWindow →
+      trackWord oldWindow (after (callAt s t (toDomains a b c)) .track) u p ≡ trackWord oldWindow t u p
   unfolding wordAfter flushes carriedOut effect setRegisters notedIn outcome
   word-kept q u p h k = words (callAt s t (toDomains a b c)) (not-given (callAt s t (toDomains a b c)) q) u p h k ∙ n .stays u p h k
 
@@ -87,7 +38,7 @@ module _ (s : State) (t : List ℕ) (n : Noted s t) (a b c : ℕ) where
     where
       go : (x : Bool) → isRefused (shown (after (callAt s t (toDomains a b c)) .answer)) ≡ x → after (callAt s t (toDomains a b c)) .track ≡ t
       go true q = left-alone s t (toDomains a b c) q .1
-      go false q = same-track t _ (track-length (callAt s t (toDomains a b c))) (n .whole) (word-kept q)
+      go false q = same-tracks oldWindow t _ t (n .whole) (track-length (callAt s t (toDomains a b c))) refl (word-kept q)
 
   -- every page has the outcome that it had
   outcome-kept : (p : ℕ) → outcome (stateOf (after (callAt s t (toDomains a b c)))) p ≡ outcome s p
@@ -118,7 +69,7 @@ pub register-forgotten : RegisterForgotten
 register-forgotten = record {
   track = λ x acc a b c. track-kept (stateOf (atEnd checker x)) (atEnd checker x .track) (noted-at-end x acc) a b c;
   stale = λ x acc a b c context page.
-      ap₂ (λ (t : List ℕ) (y : Translation). stale t context page y)
+      ap₂ (λ (t : List ℕ) (y : Translation). stale oldWindow t context page y)
       (track-kept (stateOf (atEnd checker x)) (atEnd checker x .track) (noted-at-end x acc) a b c)
       (outcome-kept (stateOf (atEnd checker x)) (atEnd checker x .track) (noted-at-end x acc) a b c (page * pageSize));
   moves = same-moves;
@@ -233,12 +184,12 @@ own-domain m a w e q =
     ap (λ (x : Entry). x .domain) (let z : e ≡ withDomain e (domainOf w) = cc in z)
 
 -- a set with an entry that is not the present outcome makes its page stale in every context that uses it
-pub stale-by : (t : List ℕ) (u : Scope) (c p : ℕ) (e x : Entry) → covers u c ≡ true → kept u (trackWord t u p) ≡ one e → same e x ≡ false → stale t c p (found x) ≡ true
+pub stale-by : (window : ℕ) (t : List ℕ) (u : Scope) (c p : ℕ) (e x : Entry) → covers u c ≡ true → kept u (trackWord window t u p) ≡ one e → same e x ≡ false → stale window t c p (found x) ≡ true
 unfolding stale differs covers
-stale-by t (own k) c p e x h q f =
-    let here : kept (own c) (trackWord t (own c) p) ≡ one e = ap (λ n. kept (own n) (trackWord t (own n) p)) (sym (eqb-true k c h)) ∙ q in
+stale-by window t (own k) c p e x h q f =
+    let here : kept (own c) (trackWord window t (own c) p) ≡ one e = ap (λ n. kept (own n) (trackWord window t (own n) p)) (sym (eqb-true k c h)) ∙ q in
     rw (here, f)
-stale-by t global c p e x h q f = rw (q, f) (or-true (differs (kept (own c) (trackWord t (own c) p)) (found x)))
+stale-by window t global c p e x h q f = rw (q, f) (or-true (differs (kept (own c) (trackWord window t (own c) p)) (found x)))
 
 pub domain-remembered : DomainRemembered
 domain-remembered = record { alone = alone; stale = changed }
@@ -247,9 +198,9 @@ domain-remembered = record { alone = alone; stale = changed }
     differs-by-domain e d ne false q = q
     differs-by-domain e d ne true q = absurd (ne (sym (ap (λ (x : Entry). x .domain) (same-true e (withDomain e d) q))))
 
-    changed : (m t : List ℕ) (a w d : ℕ) (e : Entry) (u : Scope) (context : ℕ) → d < 16 → (d ≡ domainOf w → ⊥) → tableWord m a w ≡ found e →
-        covers u context ≡ true → kept u (trackWord t u (a / pageSize)) ≡ one e → stale t context (a / pageSize) (tableWord m a (redomained d w)) ≡ true
-    changed m t a w d e u context h ne q cov k =
-        ap (stale t context (a / pageSize)) (alone m a w d e h q)
-        ∙ stale-by t u context (a / pageSize) e (withDomain e d) cov k
+    changed : (m t : List ℕ) (window a w d : ℕ) (e : Entry) (u : Scope) (context : ℕ) → d < 16 → (d ≡ domainOf w → ⊥) → tableWord m a w ≡ found e →
+        covers u context ≡ true → kept u (trackWord window t u (a / pageSize)) ≡ one e → stale window t context (a / pageSize) (tableWord m a (redomained d w)) ≡ true
+    changed m t window a w d e u context h ne q cov k =
+        ap (stale window t context (a / pageSize)) (alone m a w d e h q)
+        ∙ stale-by window t u context (a / pageSize) e (withDomain e d) cov k
         (differs-by-domain e d (λ z. ne (z ∙ own-domain m a w e q)) (same e (withDomain e d)) refl)

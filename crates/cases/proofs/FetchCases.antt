@@ -2,10 +2,10 @@
 use Prim.Native.Nat.{ℕ, _+_, _*_}
 use mathlib.Core.List.{List, [], _∷_, _++_}
 use lib.ListN.{replicate}
-use Rattle.model.specs.step.Track.{wordAt}
+use Rattle.model.specs.reference.Rules.{rooted}
 use Rattle.model.specs.step.Machine.{After, started}
 use Rattle.model.specs.declared.Kind.the-variants.{Read, Write, Asid, Addr, AddrCtx, Fetch}
-use Rattle.model.proofs.CaseTools.{put, zeros, next, faultCode, refusalCode, answered}
+use Rattle.model.proofs.CaseTools.{put, zeros, next, faultCode, refusalCode, answered, trackAt}
 use Rattle.cases.proofs.GlobalCases.{given}
 
 -- The code image has two maps, all of them at frame 0 but where another is named, with nG set but where it is not. 0x44332211 stands at
@@ -112,35 +112,35 @@ xnChanges p at clear set n before after start =
     let flushed = next Addr address 0 0 changed in
     let freed = next Addr address 0 0 back in
     let other = next Asid 1 0 0 changed in
-    (wordAt (start .track) 0 p, before) ∷ (fetching address start, 0x44332211)
-    ∷ (wordAt (changed .track) 0 p, 1)
+    (trackAt (start .track) 0 p, before) ∷ (fetching address start, 0x44332211)
+    ∷ (trackAt (changed .track) 0 p, 1)
     ∷ (fetching address changed, refusalCode 16) ∷ (reading address changed, refusalCode 16) ∷ (writing address changed, refusalCode 16)
     -- an unaligned access is fault 1 all the same
     ∷ (fetching (address + 2) changed, faultCode 1) ∷ (reading (address + 2) changed, faultCode 1)
     -- changed back without a flush
-    ∷ (wordAt (back .track) 0 p, 1) ∷ (fetching address back, refusalCode 16) ∷ (reading address back, refusalCode 16)
+    ∷ (trackAt (back .track) 0 p, 1) ∷ (fetching address back, refusalCode 16) ∷ (reading address back, refusalCode 16)
     -- flushed
-    ∷ (wordAt (flushed .track) 0 p, after) ∷ (fetching address flushed, faultCode n) ∷ (reading address flushed, 0x44332211)
-    ∷ (wordAt (freed .track) 0 p, before) ∷ (fetching address freed, 0x44332211)
-    ∷ (wordAt (other .track) 1 p, after) ∷ (fetching address other, faultCode n) ∷ (reading address other, 0x44332211)
+    ∷ (trackAt (flushed .track) 0 p, after) ∷ (fetching address flushed, faultCode n) ∷ (reading address flushed, 0x44332211)
+    ∷ (trackAt (freed .track) 0 p, before) ∷ (fetching address freed, 0x44332211)
+    ∷ (trackAt (other .track) 1 p, after) ∷ (fetching address other, faultCode n) ∷ (reading address other, 0x44332211)
     ∷ []
 
 -- By a small page's bit 0, a large page's bit 15 and a section's bit 4; and a page from XN set to clear.
 changing : List ℕ → List (ℕ × ℕ)
 unfolding next xnChanges
 changing image =
-    let start = started image (replicate 3072 7) 0x80 in
+    let start = started image (replicate 3072 7) (rooted 0x80) in
     let cleared = next Write 0x408 1 0x32 start in
     let global = next Write 0x430 1 0x32 start in
     xnChanges 1 0x404 0x32 0x33 0xF 0x602 0x642 start
     ++ xnChanges 0x10 0x441 8 0x88 0xF 0x602 0x642 start
     ++ xnChanges 0x100 0x84 2 0x12 0xD 0x702 0x742 start
-    ++ (wordAt (start .track) 0 2, 0x642) ∷ (wordAt (cleared .track) 0 2, 1) ∷ (reading 0x2010 cleared, refusalCode 16)
-    ∷ (wordAt (next Addr 0x2000 0 0 cleared .track) 0 2, 0x602) ∷ (fetching 0x2010 (next Addr 0x2000 0 0 cleared), 0x44332211)
+    ++ (trackAt (start .track) 0 2, 0x642) ∷ (trackAt (cleared .track) 0 2, 1) ∷ (reading 0x2010 cleared, refusalCode 16)
+    ∷ (trackAt (next Addr 0x2000 0 0 cleared .track) 0 2, 0x602) ∷ (fetching 0x2010 (next Addr 0x2000 0 0 cleared), 0x44332211)
     -- a global page: its word is in the global row, and it is stale in every context
-    ∷ (wordAt (start .track) 2 0xC, 0x6C2) ∷ (wordAt (global .track) 2 0xC, 1)
+    ∷ (trackAt (start .track) 2 0xC, 0x6C2) ∷ (trackAt (global .track) 2 0xC, 1)
     ∷ (fetching 0xC010 global, refusalCode 16) ∷ (reading 0xC010 (next Asid 1 0 0 global), refusalCode 16)
-    ∷ (wordAt (next AddrCtx 0xC000 1 0 global .track) 2 0xC, 0x682) ∷ (fetching 0xC010 (next AddrCtx 0xC000 1 0 global), 0x44332211)
+    ∷ (trackAt (next AddrCtx 0xC000 1 0 global .track) 2 0xC, 0x682) ∷ (fetching 0xC010 (next AddrCtx 0xC000 1 0 global), 0x44332211)
     ∷ []
 
 unfoldable pub fetches : List (ℕ × ℕ)

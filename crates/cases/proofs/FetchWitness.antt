@@ -7,8 +7,9 @@ use mathlib.Core.Bool.{true, false, cond}
 use mathlib.Core.Option.{Option, some}
 use mathlib.Core.List.{List, [], _∷_}
 use lib.ListN.{length, set, replicate}
+use Rattle.model.specs.Limits.{rowSize}
 use Rattle.model.specs.Numbers.{Result, ok, fault, refused, shown}
-use Rattle.model.specs.reference.Rules.{fresh, access, translated, touched, stored, aligned, among, accessSize, mayRead, mayWrite, permits, fieldOf, ruling, ruled, permissionFault, rightOf, physical, outcome, setRegisters, effect, carriedOut, plainStep, scopeOf, covers, flushes, heldScope, matches, heldFor, anyClash, load, isFree, putIn, move, moves, orWalk, chipOutcome, flushPlace, chipStep, walk, descriptor, tableWord, pageWord, globalBy, domainOf, section, smallPage, bits, value, inMemory}
+use Rattle.model.specs.reference.Rules.{fresh, access, translated, touched, stored, aligned, among, accessSize, mayRead, mayWrite, permits, fieldOf, ruling, ruled, permissionFault, rightOf, physical, outcome, setRegisters, effect, carriedOut, plainStep, scopeOf, covers, flushes, heldScope, matches, heldFor, anyClash, load, isFree, putIn, move, moves, orWalk, chipOutcome, flushPlace, chipStep, walk, descriptor, tableWord, pageWord, globalBy, domainOf, section, smallPage, bits, value, inMemory, rooted}
 use Rattle.model.specs.reference.Runs.{last, Checker, next, checkerRun, isRefused, told, plainRun, chipStart, chipNext, chipRun, Holds}
 use Rattle.model.specs.step.Machine.{started, stepped}
 use Rattle.model.specs.Invisible.{Accepted, isAccess, alignedAccess, atEnd, plainLast, chipLast, CouldDiffer, checker}
@@ -61,7 +62,7 @@ blind-faults = refl
 -- a chip of one place that loaded the page before the store holds its old entry
 blind-differs : CouldDiffer blindFetch case fetchBack
 unfolding blindFetch case unmap fetchBack old told isRefused stepOn Holds last plainRun plainStep carriedOut effect access translated touched stored aligned
-    accessSize among mayRead mayWrite permits fieldOf ruling ruled rightOf physical fresh chipStart chipRun chipNext chipStep chipOutcome orWalk heldFor moves move isFree anyClash
+    accessSize among mayRead mayWrite permits fieldOf ruling ruled rightOf physical fresh chipStart chipRun chipNext chipStep chipOutcome orWalk heldFor moves move rowSize isFree anyClash
     putIn outcome walk descriptor tableWord pageWord smallPage globalBy domainOf bits value inMemory heldScope scopeOf covers matches flushPlace flushes
 blind-differs = record {
   places = 0;
@@ -91,10 +92,10 @@ fetchAfter low = record { kind = Write; a = 0x80; b = 1; c = low } ∷ record { 
 
 -- the last answer of a chip that loaded page 2 at first, and of the plain machine, told that nothing was refused
 abbrev chipAnswer : ℕ → ℕ → Option Result
-chipAnswer before after = chipLast (image before) 0x80 (fetchAfter after) 1 (load 0 2 ∷ []) (λ i. []) .answer
+chipAnswer before after = chipLast (image before) (rooted 0x80) (fetchAfter after) 1 (load 0 2 ∷ []) (λ i. []) .answer
 
 abbrev plainAnswer : ℕ → ℕ → Option Result
-plainAnswer before after = plainLast (image before) 0x80 (fetchAfter after) .0
+plainAnswer before after = plainLast (image before) (rooted 0x80) (fetchAfter after) .0
 
 -- XN set by the store: the chip fetches through its old entry, and the plain machine faults; XN cleared: the other way round
 pub record OldXnDecides : Type 0 where
@@ -105,6 +106,6 @@ pub record OldXnDecides : Type 0 where
 
 pub old-xn-decides : OldXnDecides
 unfolding last plainRun plainStep carriedOut effect setRegisters access translated touched stored aligned accessSize among mayRead mayWrite permits fieldOf ruling ruled
-    permissionFault rightOf physical fresh chipStart chipRun chipNext chipStep chipOutcome orWalk heldFor moves move isFree anyClash putIn outcome walk
+    permissionFault rightOf physical fresh chipStart chipRun chipNext chipStep chipOutcome orWalk heldFor moves move rowSize isFree anyClash putIn outcome walk
     descriptor tableWord section globalBy domainOf bits value inMemory heldScope scopeOf covers matches flushPlace flushes
 old-xn-decides = record { fetches = refl; plainFaults = refl; faults = refl; plainFetches = refl }

@@ -2,11 +2,11 @@
 use Prim.Native.Nat.{ℕ, _+_, _*_}
 use mathlib.Core.List.{List, [], _∷_, _++_}
 use lib.ListN.{replicate}
-use Rattle.model.specs.step.Track.{wordAt}
+use Rattle.model.specs.reference.Rules.{rooted}
 use Rattle.model.specs.step.Machine.{After, started}
 use Rattle.model.specs.declared.Kind.the-variants.{Read, Write, Root, Asid, Mode, All, Addr, Ctx, AddrCtx}
 use Rattle.model.specs.declared.Answer.the-variants.{Done}
-use Rattle.model.proofs.CaseTools.{put, zeros, next, faultCode, refusalCode, answered}
+use Rattle.model.proofs.CaseTools.{put, zeros, next, faultCode, refusalCode, answered, trackAt}
 
 -- registers, memory and track as an operation is given them; with each field of the domain register 1
 abbrev pub givenWith : ℕ → ℕ → ℕ → ℕ → List ℕ → List ℕ → After
@@ -29,11 +29,11 @@ sharedImage =
 
 -- the word of a page in context 0, in context 1 and in the global row of two contexts; the same of three contexts
 abbrev inRows : ℕ → After → ℕ × ℕ × ℕ → List (ℕ × ℕ)
-inRows p x row = (wordAt (x .track) 0 p, row .0) ∷ (wordAt (x .track) 1 p, row .1) ∷ (wordAt (x .track) 2 p, row .2) ∷ []
+inRows p x row = (trackAt (x .track) 0 p, row .0) ∷ (trackAt (x .track) 1 p, row .1) ∷ (trackAt (x .track) 2 p, row .2) ∷ []
 
 abbrev inFourRows : ℕ → After → ℕ × ℕ × ℕ × ℕ → List (ℕ × ℕ)
 inFourRows p x row =
-    (wordAt (x .track) 0 p, row .0) ∷ (wordAt (x .track) 1 p, row .1) ∷ (wordAt (x .track) 2 p, row .2) ∷ (wordAt (x .track) 3 p, row .3) ∷ []
+    (trackAt (x .track) 0 p, row .0) ∷ (trackAt (x .track) 1 p, row .1) ∷ (trackAt (x .track) 2 p, row .2) ∷ (trackAt (x .track) 3 p, row .3) ∷ []
 
 -- a read of a page that is at frame 0: it is refused as stale; it is carried out; it faults
 abbrev reading : ℕ → After → ℕ
@@ -63,7 +63,7 @@ asid c x = next Asid c 0 0 x
 noting : List ℕ → After → After → List (ℕ × ℕ)
 unfolding next
 noting image start threeContexts =
-    let oneContext = started image (replicate 2048 7) 0x80 in
+    let oneContext = started image (replicate 2048 7) (rooted 0x80) in
     let other = asid 1 start in
     let empty : List ℕ = replicate 1024 0 in
     -- two contexts: context 0 has an own entry of page 1, the global row an entry of page 2, neither one of the tables
@@ -80,10 +80,10 @@ noting image start threeContexts =
     ++ inRows 0x300 start (0x702, 0, 0)
     ++ inRows 0x3FF start (0xFF702, 0, 0)
     -- the global row is the one behind the contexts' rows, however many they are
-    ++ (wordAt (oneContext .track) 0 1, 0)
-    ∷ (wordAt (oneContext .track) 1 1, 0x682)
-    ∷ (wordAt (oneContext .track) 0 2, 0x602)
-    ∷ (wordAt (oneContext .track) 1 2, 0)
+    ++ (trackAt (oneContext .track) 0 1, 0)
+    ∷ (trackAt (oneContext .track) 1 1, 0x682)
+    ∷ (trackAt (oneContext .track) 0 2, 0x602)
+    ∷ (trackAt (oneContext .track) 1 2, 0)
     ∷ inFourRows 1 threeContexts (0, 0, 0, 0x682)
     ++ inFourRows 2 threeContexts (0x602, 0, 0, 0)
     -- `asid` to another context: own entries are noted there, global ones are in their row already, and both are used
@@ -305,6 +305,6 @@ unfoldable pub globalEntries : List (ℕ × ℕ)
 unfolding next noting remapping turning switching throughContext0 thereAndBack unsuited
 globalEntries =
     let image = sharedImage in
-    let two = started image (replicate 3072 7) 0x80 in
-    let three = started image (replicate 4096 7) 0x80 in
+    let two = started image (replicate 3072 7) (rooted 0x80) in
+    let three = started image (replicate 4096 7) (rooted 0x80) in
     noting image two three ++ remapping two ++ turning three ++ switching two ++ throughContext0 two ++ thereAndBack two ++ unsuited image

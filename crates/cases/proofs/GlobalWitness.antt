@@ -7,7 +7,7 @@ use mathlib.Core.List.{List, [], _∷_}
 use lib.ListN.{replicate}
 use Rattle.model.specs.Limits.{pageSize}
 use Rattle.model.specs.Numbers.{Result, fault, refused, shown}
-use Rattle.model.specs.reference.Rules.{found, failed, State, fresh, outcome, carriedOut, plainStep, walk, descriptor, tableWord, pageWord, globalBy, domainOf, smallPage, bits, value, inMemory, effect, setRegisters, access, translated, touched, stored, aligned, accessSize, mayRead, mayWrite, permits, fieldOf, ruling, ruled, rightOf, physical, among}
+use Rattle.model.specs.reference.Rules.{found, failed, State, fresh, outcome, carriedOut, plainStep, walk, descriptor, tableWord, pageWord, globalBy, domainOf, smallPage, bits, value, inMemory, effect, setRegisters, access, translated, touched, stored, aligned, accessSize, mayRead, mayWrite, permits, fieldOf, ruling, ruled, rightOf, physical, among, rooted}
 use Rattle.model.specs.reference.Runs.{last, next, checkerRun, isRefused, told, plainRun}
 use Rattle.model.specs.Invisible.{Session, Accepted, toldOf, plainEnd, atEnd, CouldDiffer, checker}
 use Rattle.model.specs.declared.Operation.{Operation}
@@ -28,7 +28,7 @@ toContext1 = record { kind = Asid; a = 1; b = 0; c = 0 }
 
 -- two contexts; page 1 is unmapped in context 0, then context 1 is current
 unfoldable pub across : ℕ → Session
-across w = record { image = image w; track = replicate 3072 0; root = 0; operations = unmap ∷ toContext1 ∷ [] }
+across w = record { image = image w; track = replicate 3072 0; setting = rooted 0; operations = unmap ∷ toContext1 ∷ [] }
 
 -- page 1 global: frame 0, AP 3, nG clear; the same with nG set
 abbrev pub globalWord : ℕ
@@ -62,7 +62,7 @@ global-witness = could-differ (across globalWord) (accepted globalWord) readBack
 
 -- the context in which the plain machine ends after what was told: the read is one of context 1
 ends-in : List (Operation × Bool) → ℕ
-ends-in l = last {A = Option Result × State} (none, fresh (image globalWord) 0) (plainRun (fresh (image globalWord) 0) l) .1 .registers .context
+ends-in l = last {A = Option Result × State} (none, fresh (image globalWord) (rooted 0)) (plainRun (fresh (image globalWord) (rooted 0)) l) .1 .registers .context
 
 ends-in-1 : ends-in ((unmap, false) ∷ (toContext1, false) ∷ []) ≡ 1
 unfolding ends-in last plainRun plainStep carriedOut effect setRegisters toContext1
@@ -73,21 +73,21 @@ unfolding across ends-in
 read-in-1 = ap ends-in told-is ∙ ends-in-1
 
 -- the old entry before the store, none after it and none in context 1
-before-store : outcome (fresh (image globalWord) 0) (1 * pageSize) ≡ found oldGlobal
+before-store : outcome (fresh (image globalWord) (rooted 0)) (1 * pageSize) ≡ found oldGlobal
 unfolding outcome fresh walk descriptor tableWord pageWord smallPage globalBy domainOf bits value inMemory oldGlobal
 before-store = refl
 
-after-store : outcome (plainStep unmap false (fresh (image globalWord) 0) .1) (1 * pageSize) ≡ failed 0x7
+after-store : outcome (plainStep unmap false (fresh (image globalWord) (rooted 0)) .1) (1 * pageSize) ≡ failed 0x7
 unfolding plainStep carriedOut effect access translated touched stored aligned accessSize among mayRead mayWrite permits fieldOf ruling ruled rightOf physical outcome fresh walk descriptor tableWord pageWord smallPage domainOf bits value inMemory unmap
 after-store = refl
 
-in-context-1 : outcome (plainStep toContext1 false (plainStep unmap false (fresh (image globalWord) 0) .1) .1) (1 * pageSize) ≡ failed 0x7
+in-context-1 : outcome (plainStep toContext1 false (plainStep unmap false (fresh (image globalWord) (rooted 0)) .1) .1) (1 * pageSize) ≡ failed 0x7
 unfolding plainStep carriedOut effect setRegisters access translated touched stored aligned accessSize among mayRead mayWrite permits fieldOf ruling ruled rightOf physical outcome fresh walk descriptor tableWord pageWord smallPage domainOf bits value inMemory unmap toContext1
 in-context-1 = refl
 
-throughout : Throughout 0 1 oldGlobal (fresh (image globalWord) 0) (toldOf checker (across globalWord))
+throughout : Throughout 0 1 oldGlobal (fresh (image globalWord) (rooted 0)) (toldOf checker (across globalWord))
 throughout =
-    subst (Throughout 0 1 oldGlobal (fresh (image globalWord) 0)) (sym told-is)
+    subst (Throughout 0 1 oldGlobal (fresh (image globalWord) (rooted 0))) (sym told-is)
     (unfold Throughout in (still before-store (unfold fresh in refl), (gone 0x7 after-store, gone 0x7 in-context-1)))
 
 -- a chip that could then hold what matches page 1 in context 1 holds the old entry, loaded in context 0

@@ -102,10 +102,10 @@ module _ (context page : ℕ) (old : Entry) where
 
   -- So what a TLB could hold that matches the page, after such a list, is the old entry, loaded in its context.
   pub only-old : (x : Session) → Accepted checker x → (o : Operation) → o .a / pageSize ≡ page →
-      Throughout (fresh (x .image) (x .root)) (toldOf checker x) → (y : CouldDiffer checker x o) → y .held ≡ held context page old
+      Throughout (fresh (x .image) (x .setting)) (toldOf checker x) → (y : CouldDiffer checker x o) → y .held ≡ held context page old
   unfolding OldOnly matches
   only-old x acc o is t y =
-      let s : State = fresh (x .image) (x .root) in
+      let s : State = fresh (x .image) (x .setting) in
       let start : Moment = chipStartOf x (suc (y .places)) (y .first) in
       held-run start s (toldOf checker x) (y .script)
       (invisible .same .chip x acc (y .places) (y .first) (y .script) ∙ sym (invisible .same .plain x acc)) t

@@ -4,25 +4,27 @@ use mathlib.Core.Path.{_≡_, refl}
 use mathlib.Core.Bool.{Bool, true, cond, not}
 use mathlib.Core.List.{List, [], _∷_, _++_}
 use lib.ListN.{replicate}
+use Rattle.model.specs.Limits.{oldWindow, rowSize}
+use Rattle.model.specs.reference.Rules.{rooted}
 use Rattle.model.specs.step.Memory.{within, loadAt, writtenAt}
 use Rattle.model.specs.step.Walk.{walkPage, firstAt, firstOf, secondAt, secondOf}
 use Rattle.model.specs.step.Rights.{kernelRights, userRights, rightsOf, permitted, fieldAt, rulingOf}
 use Rattle.model.specs.step.Rows.{inRow, eachRow}
-use Rattle.model.specs.step.Track.{isEntry, addEntry, notePage, lastRow, noteTrack, flushAll, flushPage, flushContext, flushPageIn, wordAt, staleWord, stalePage}
-use Rattle.model.specs.step.Checks.{memoryFits, trackFits, lengthsFit, rootFits, fieldsFit, domainsFit, registersFit, sizeFits, addressFits, valueFits, newRootFits, contextFits, modeFits, newDomainsFit, mayAsk, rootMayChange, checks, startChecks, firstFailing}
+use Rattle.model.specs.step.Track.{isEntry, addEntry, notePage, lastRow, noteTrack, flushAll, flushPage, flushContext, flushPageIn, staleWord, stalePage}
+use Rattle.model.specs.step.Checks.{memoryFits, trackFits, lengthsFit, rootFits, fieldsFit, domainsFit, registersFit, sizeFits, addressFits, valueFits, newRootFits, contextFits, modeFits, newDomainsFit, mayAsk, rootMayChange, checks, startChecks, firstFailing, alignmentOf}
 use Rattle.model.specs.step.Machine.{After, permissionFaultOf, domainFaultOf, decided, accessAt, readStep, writeStep, fetchStep, operate, started}
 use Rattle.model.specs.declared.Kind.{Kind}
 use Rattle.model.specs.declared.Kind.the-variants.{Read, Write, Root, Asid, Mode, All, Addr, Ctx, AddrCtx, Fetch, Domain}
 use Rattle.model.specs.declared.Answer.the-variants.{Done}
-use Rattle.model.proofs.CaseTools.{allMatch, put, zeros, refusalCode, faultCode, answered}
+use Rattle.model.proofs.CaseTools.{allMatch, put, zeros, refusalCode, faultCode, answered, trackAt, tablesAt}
 use Rattle.runs.specs.Quiet.{overlap, touchesTables, touches, quiet}
 use Rattle.runs.specs.Step.{extentOf, flushedBy, noteOnePage, runOperate, runStepped}
 
 -- an operation of a run with its fields, on what the one before it left; to unfold it is to unfold the whole step
 unfoldable pub step : Kind → ℕ → ℕ → ℕ → After → After
 unfolding within loadAt writtenAt walkPage firstAt firstOf secondAt secondOf kernelRights userRights rightsOf permitted fieldAt rulingOf inRow
-    eachRow isEntry addEntry notePage lastRow noteTrack flushAll flushPage flushContext flushPageIn staleWord stalePage memoryFits
-    trackFits lengthsFit rootFits fieldsFit domainsFit registersFit sizeFits addressFits valueFits newRootFits contextFits modeFits newDomainsFit mayAsk
+    eachRow isEntry addEntry notePage lastRow noteTrack flushAll flushPage flushContext flushPageIn staleWord stalePage rowSize memoryFits
+    trackFits lengthsFit alignmentOf rootFits fieldsFit domainsFit registersFit sizeFits addressFits valueFits newRootFits contextFits modeFits newDomainsFit mayAsk
     rootMayChange checks startChecks firstFailing permissionFaultOf domainFaultOf decided accessAt readStep writeStep fetchStep operate started
     overlap touchesTables touches quiet extentOf flushedBy noteOnePage runOperate runStepped
 step k a b c x = runStepped (record { kind = k; a = a; b = b; c = c }) (x .registers) (x .memory) (x .track)
@@ -41,7 +43,7 @@ image =
 -- ── Which stores are quiet, by place and size, under root 0x80 ──
 
 abbrev isQuiet : ℕ → ℕ → ℕ
-isQuiet at n = cond (quiet image 0x80 at n) 1 0
+isQuiet at n = cond (quiet oldWindow image (tablesAt 0x80) at n) 1 0
 
 abbrev used : ℕ → ℕ → ℕ × ℕ
 used at n = (isQuiet at n, 0)
@@ -82,11 +84,11 @@ quiet-cases = refl
 -- ── The step for runs, from a start with two contexts ──
 
 abbrev begun : After
-begun = started image (replicate 3072 0) 0x80
+begun = started image (replicate 3072 0) (rooted 0x80)
 
 -- the words of a page in context 0, in context 1 and in the global row
 abbrev words : ℕ → After → ℕ × ℕ × ℕ → List (ℕ × ℕ)
-words p x row = (wordAt (x .track) 0 p, row .0) ∷ (wordAt (x .track) 1 p, row .1) ∷ (wordAt (x .track) 2 p, row .2) ∷ []
+words p x row = (trackAt (x .track) 0 p, row .0) ∷ (trackAt (x .track) 1 p, row .1) ∷ (trackAt (x .track) 2 p, row .2) ∷ []
 
 -- a read of a page: carried out, or refused as stale
 abbrev reads : ℕ → After → ℕ × ℕ

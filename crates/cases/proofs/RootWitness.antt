@@ -6,7 +6,7 @@ use mathlib.Core.Bool.{Bool, true, false, true≢false}
 use mathlib.Core.Option.{Option, none}
 use mathlib.Core.List.{List, [], _∷_}
 use Rattle.model.specs.Numbers.{Result, ok, refused, shown}
-use Rattle.model.specs.reference.Rules.{State, fresh, carriedOut, plainStep, effect, setRegisters, aligned, accessSize, among}
+use Rattle.model.specs.reference.Rules.{State, fresh, carriedOut, plainStep, effect, setRegisters, aligned, accessSize, among, rooted}
 use Rattle.model.specs.reference.Runs.{last, next, checkerRun, isRefused, told, plainRun}
 use Rattle.model.specs.Invisible.{Session, Accepted, toldOf, plainEnd, atEnd, isAccess, alignedAccess, CouldDiffer, checker}
 use Rattle.model.specs.declared.Operation.{Operation}
@@ -48,7 +48,7 @@ direct-told = refl
 
 -- and the plain machine keeps its root
 endOf : List (Operation × Bool) → Registers
-endOf l = last {A = Option Result × State} (none, fresh image 0x80) (plainRun (fresh image 0x80) l) .1 .registers
+endOf l = last {A = Option Result × State} (none, fresh image (rooted 0x80)) (plainRun (fresh image (rooted 0x80)) l) .1 .registers
 
 kept : endOf ((toContext 1, false) ∷ (toRoot 0, true) ∷ []) ≡ record { root = 0x80; context = 1; mode = 0; domains = 0x55555555 }
 unfolding endOf last plainRun plainStep carriedOut effect setRegisters fresh toContext

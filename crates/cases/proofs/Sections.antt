@@ -114,6 +114,6 @@ not-same a w true p =
 pub section-remembered : SectionRemembered
 section-remembered = record {
   alone = alone;
-  stale = λ m t a w v u context e cov k.
-      ap (stale t context (a / pageSize)) e ∙ stale-by t u context (a / pageSize) (section a w) (asPage (section a w)) cov k (not-same a w (same (section a w) (asPage (section a w))) refl);
+  stale = λ m t window a w v u context e cov k.
+      ap (stale window t context (a / pageSize)) e ∙ stale-by window t u context (a / pageSize) (section a w) (asPage (section a w)) cov k (not-same a w (same (section a w) (asPage (section a w))) refl);
 }

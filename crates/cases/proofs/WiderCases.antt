@@ -5,11 +5,12 @@ use mathlib.Core.Bool.{Bool, true, false, cond}
 use mathlib.Core.List.{List, [], _∷_, _++_}
 use lib.Dec.{eqb}
 use lib.ListN.{getD, set, replicate}
+use Rattle.model.specs.reference.Rules.{rooted}
 use Rattle.model.specs.Numbers.{faultNumber, refusalNumber}
 use Rattle.model.specs.step.Memory.{numberAt}
 use Rattle.model.specs.step.Walk.{firstOf, walkPage}
 use Rattle.model.specs.step.Rights.{permitted}
-use Rattle.model.specs.step.Track.{entryWord, addEntry, wordAt, staleWord}
+use Rattle.model.specs.step.Track.{entryWord, addEntry, staleWord}
 use Rattle.model.specs.step.Checks.{checks, startChecks, firstFailing}
 use Rattle.model.specs.step.Machine.{After, started}
 use Rattle.model.specs.declared.Registers.{Registers}
@@ -26,7 +27,7 @@ use Rattle.model.specs.declared.Outcome.{Outcome}
 use Rattle.model.specs.declared.Outcome.the-variants.{Mapped, Failed}
 use Rattle.model.specs.declared.Check.{Check}
 use Rattle.model.specs.declared.Check.the-variants.{Pass, Refuse}
-use Rattle.model.proofs.CaseTools.{allMatch, put, zeros, imageA, next, faultCode, refusalCode, answered}
+use Rattle.model.proofs.CaseTools.{allMatch, put, zeros, imageA, next, faultCode, refusalCode, answered, trackAt, tablesAt}
 use Rattle.cases.proofs.SplitCases.{splitAndJoined}
 use Rattle.cases.proofs.GlobalCases.{given, givenWith, globalEntries}
 use Rattle.cases.proofs.FetchCases.{fetches}
@@ -47,7 +48,7 @@ same (x ∷ xs) (y ∷ ys) = cond (eqb x y) (same xs ys) false
 listing : List (ℕ × ℕ)
 unfolding next
 listing =
-    let start = started imageA (replicate 2048 0) 0 in
+    let start = started imageA (replicate 2048 0) (rooted 0) in
     let line2 = next Read 0x1000 4 0 start in
     let line3 = next Write 0x404 4 0x4832 line2 in
     let line4 = next Read 0x1000 4 0 line3 in
@@ -127,15 +128,15 @@ outcome (Failed f) = faultCode (faultNumber f)
 
 -- the outcome of a page under root 0 with this level-one word
 abbrev first : ℕ → ℕ → ℕ
-first w page = outcome (walkPage (put (4 * (page / 256)) w zeros) 0 page)
+first w page = outcome (walkPage (put (4 * (page / 256)) w zeros) (tablesAt 0) page)
 
 -- the outcome of a page under root 0x80 with its table at 0 and this level-two word
 abbrev second : ℕ → ℕ → ℕ
-second w page = outcome (walkPage (put (0x80 + 4 * (page / 256)) 1 (put (4 * (page % 256)) w zeros)) 0x80 page)
+second w page = outcome (walkPage (put (0x80 + 4 * (page / 256)) 1 (put (4 * (page % 256)) w zeros)) (tablesAt 0x80) page)
 
 -- the same with the table in domain d
 abbrev secondIn : ℕ → ℕ → ℕ → ℕ
-secondIn d w page = outcome (walkPage (put (0x80 + 4 * (page / 256)) (1 + d * 32) (put (4 * (page % 256)) w zeros)) 0x80 page)
+secondIn d w page = outcome (walkPage (put (0x80 + 4 * (page / 256)) (1 + d * 32) (put (4 * (page % 256)) w zeros)) (tablesAt 0x80) page)
 
 -- the base of the table that a level-one word points to
 abbrev tableBase : FirstLevel → ℕ
@@ -216,30 +217,30 @@ tables =
     ∷ (tableBase (firstOf 0xFFFFFFFD 0), 0xFFFFFC00)
     ∷ (tableBase (firstOf 0x000003FD 0), 0)
     -- the same by walks, with a level-two word at 0x400
-    ∷ (outcome (walkPage (put 0 0x00000401 atBase) 0 0), globalPage 0x12345 3)
-    ∷ (outcome (walkPage (put 0 0x0000061D atBase) 0 0), globalPage 0x12345 3)
-    ∷ (outcome (walkPage (put 0 0x80000401 atBase) 0 0), faultCode 0xE)
+    ∷ (outcome (walkPage (put 0 0x00000401 atBase) (tablesAt 0) 0), globalPage 0x12345 3)
+    ∷ (outcome (walkPage (put 0 0x0000061D atBase) (tablesAt 0) 0), globalPage 0x12345 3)
+    ∷ (outcome (walkPage (put 0 0x80000401 atBase) (tablesAt 0) 0), faultCode 0xE)
     -- no bit of the level-one word is the nG of its pages, or their XN
-    ∷ (outcome (walkPage (put 0 0x00000401 ownAtBase) 0 0), ownPage 0x12345 3)
-    ∷ (outcome (walkPage (put 0 0x0000061D ownAtBase) 0 0), ownPage 0x12345 3)
-    ∷ (outcome (walkPage (put 0 0x00000401 (put 0x400 0x12345033 zeros)) 0 0), withXn (globalPage 0x12345 3))
+    ∷ (outcome (walkPage (put 0 0x00000401 ownAtBase) (tablesAt 0) 0), ownPage 0x12345 3)
+    ∷ (outcome (walkPage (put 0 0x0000061D ownAtBase) (tablesAt 0) 0), ownPage 0x12345 3)
+    ∷ (outcome (walkPage (put 0 0x00000401 (put 0x400 0x12345033 zeros)) (tablesAt 0) 0), withXn (globalPage 0x12345 3))
     -- the domain of its pages, bits 8..5: each bit alone, all of them, and with every ignored bit
-    ∷ (outcome (walkPage (put 0 0x00000421 atBase) 0 0), inDomain 1 (globalPage 0x12345 3))
-    ∷ (outcome (walkPage (put 0 0x00000441 atBase) 0 0), inDomain 2 (globalPage 0x12345 3))
-    ∷ (outcome (walkPage (put 0 0x00000481 atBase) 0 0), inDomain 4 (globalPage 0x12345 3))
-    ∷ (outcome (walkPage (put 0 0x00000501 atBase) 0 0), inDomain 8 (globalPage 0x12345 3))
-    ∷ (outcome (walkPage (put 0 0x000005E1 atBase) 0 0), inDomain 15 (globalPage 0x12345 3))
-    ∷ (outcome (walkPage (put 0 0x000007FD atBase) 0 0), inDomain 15 (globalPage 0x12345 3))
-    ∷ (outcome (walkPage (put 0 0x000007FD ownAtBase) 0 0), inDomain 15 (ownPage 0x12345 3))
+    ∷ (outcome (walkPage (put 0 0x00000421 atBase) (tablesAt 0) 0), inDomain 1 (globalPage 0x12345 3))
+    ∷ (outcome (walkPage (put 0 0x00000441 atBase) (tablesAt 0) 0), inDomain 2 (globalPage 0x12345 3))
+    ∷ (outcome (walkPage (put 0 0x00000481 atBase) (tablesAt 0) 0), inDomain 4 (globalPage 0x12345 3))
+    ∷ (outcome (walkPage (put 0 0x00000501 atBase) (tablesAt 0) 0), inDomain 8 (globalPage 0x12345 3))
+    ∷ (outcome (walkPage (put 0 0x000005E1 atBase) (tablesAt 0) 0), inDomain 15 (globalPage 0x12345 3))
+    ∷ (outcome (walkPage (put 0 0x000007FD atBase) (tablesAt 0) 0), inDomain 15 (globalPage 0x12345 3))
+    ∷ (outcome (walkPage (put 0 0x000007FD ownAtBase) (tablesAt 0) 0), inDomain 15 (ownPage 0x12345 3))
     -- the level-one word of page 0x3FF is at 0xC from the root, its level-two word at 0x3FC from the table's base
-    ∷ (outcome (walkPage atEnd 0x80 0x3FF), globalPage 0x12345 3)
-    ∷ (outcome (walkPage atEnd 0x80 0x3FE), faultCode 0x7)
-    ∷ (outcome (walkPage atEnd 0x80 0x2FF), faultCode 0x5)
+    ∷ (outcome (walkPage atEnd (tablesAt 0x80) 0x3FF), globalPage 0x12345 3)
+    ∷ (outcome (walkPage atEnd (tablesAt 0x80) 0x3FE), faultCode 0x7)
+    ∷ (outcome (walkPage atEnd (tablesAt 0x80) 0x2FF), faultCode 0x5)
     -- at each level the last words of memory, and the first behind them
-    ∷ (outcome (walkPage (put 0xF8C 0x12300002 zeros) 0xF80 0x300), globalSection 0x12300 0)
-    ∷ (outcome (walkPage zeros 0x1000 0), faultCode 0xC)
-    ∷ (outcome (walkPage (put 0 0xC01 (put 0xFFC 0x12345032 zeros)) 0 0xFF), globalPage 0x12345 3)
-    ∷ (outcome (walkPage (put 0 0x1001 zeros) 0 0), faultCode 0xE)
+    ∷ (outcome (walkPage (put 0xF8C 0x12300002 zeros) (tablesAt 0xF80) 0x300), globalSection 0x12300 0)
+    ∷ (outcome (walkPage zeros (tablesAt 0x1000) 0), faultCode 0xC)
+    ∷ (outcome (walkPage (put 0 0xC01 (put 0xFFC 0x12345032 zeros)) (tablesAt 0) 0xFF), globalPage 0x12345 3)
+    ∷ (outcome (walkPage (put 0 0x1001 zeros) (tablesAt 0) 0), faultCode 0xE)
     ∷ []
 
 -- Level-two words: large pages, small pages, and words that map nothing.
@@ -670,16 +671,16 @@ order =
     ∷ (checked 4096 3072 0x80 0 1 Root 0x100 0 0, 15)
     ∷ (inKernel Root 0x100 0 0, 20)
     -- start: 13, 10, and 13 before 10
-    ∷ (refusal (firstFailing (startChecks 4096 2048 0x80)), 0)
-    ∷ (refusal (firstFailing (startChecks 4095 2048 0x80)), 13)
-    ∷ (refusal (firstFailing (startChecks 4096 2047 0x80)), 13)
-    ∷ (refusal (firstFailing (startChecks 4096 2048 0x40)), 10)
-    ∷ (refusal (firstFailing (startChecks 4095 2048 0x40)), 13)
+    ∷ (refusal (firstFailing (startChecks 4096 2048 (rooted 0x80))), 0)
+    ∷ (refusal (firstFailing (startChecks 4095 2048 (rooted 0x80))), 13)
+    ∷ (refusal (firstFailing (startChecks 4096 2047 (rooted 0x80))), 13)
+    ∷ (refusal (firstFailing (startChecks 4096 2048 (rooted 0x40))), 10)
+    ∷ (refusal (firstFailing (startChecks 4095 2048 (rooted 0x40))), 13)
     -- the rows of its track are counted as those of an operation
-    ∷ (refusal (firstFailing (startChecks 4096 0 0x80)), 13)
-    ∷ (refusal (firstFailing (startChecks 4096 1024 0x80)), 13)
-    ∷ (refusal (firstFailing (startChecks 4096 263168 0x80)), 0)
-    ∷ (refusal (firstFailing (startChecks 4096 264192 0x80)), 13)
+    ∷ (refusal (firstFailing (startChecks 4096 0 (rooted 0x80))), 13)
+    ∷ (refusal (firstFailing (startChecks 4096 1024 (rooted 0x80))), 13)
+    ∷ (refusal (firstFailing (startChecks 4096 263168 (rooted 0x80))), 0)
+    ∷ (refusal (firstFailing (startChecks 4096 264192 (rooted 0x80))), 13)
     ∷ []
 
 -- The place of refusal 16 at a read, or at a fetch: behind fault 1, before every other fault. The track has one context.
@@ -720,15 +721,15 @@ staleOrder small =
 -- the words of pages 0, 1 and 2 in context 0, in context 1 and in the global row
 abbrev tracked : After → ℕ × ℕ × ℕ → ℕ × ℕ × ℕ → ℕ × ℕ × ℕ → List (ℕ × ℕ)
 tracked x row0 row1 shared =
-    (wordAt (x .track) 0 0, row0 .0)
-    ∷ (wordAt (x .track) 0 1, row0 .1)
-    ∷ (wordAt (x .track) 0 2, row0 .2)
-    ∷ (wordAt (x .track) 1 0, row1 .0)
-    ∷ (wordAt (x .track) 1 1, row1 .1)
-    ∷ (wordAt (x .track) 1 2, row1 .2)
-    ∷ (wordAt (x .track) 2 0, shared .0)
-    ∷ (wordAt (x .track) 2 1, shared .1)
-    ∷ (wordAt (x .track) 2 2, shared .2)
+    (trackAt (x .track) 0 0, row0 .0)
+    ∷ (trackAt (x .track) 0 1, row0 .1)
+    ∷ (trackAt (x .track) 0 2, row0 .2)
+    ∷ (trackAt (x .track) 1 0, row1 .0)
+    ∷ (trackAt (x .track) 1 1, row1 .1)
+    ∷ (trackAt (x .track) 1 2, row1 .2)
+    ∷ (trackAt (x .track) 2 0, shared .0)
+    ∷ (trackAt (x .track) 2 1, shared .1)
+    ∷ (trackAt (x .track) 2 2, shared .2)
     ∷ []
 
 -- The flushes: which sets they empty, and which of these are noted again.
@@ -763,15 +764,15 @@ flushes small =
     ++ keeping in0 ctx 0
     ++ keeping in0 addrctx 0
     -- the ends of the rows
-    ++ (wordAt (ctx .track) 0 0x3FF, 7)
-    ∷ (wordAt (ctx .track) 1 0x3FF, 0)
-    ∷ (wordAt (ctx .track) 2 0x3FF, 7)
-    ∷ (wordAt (lastPage .track) 0 0x3FE, 7)
-    ∷ (wordAt (lastPage .track) 0 0x3FF, 0)
-    ∷ (wordAt (lastPage .track) 1 0, 7)
-    ∷ (wordAt (lastPage .track) 1 0x3FF, 7)
-    ∷ (wordAt (lastPage .track) 2 0x3FE, 7)
-    ∷ (wordAt (lastPage .track) 2 0x3FF, 0)
+    ++ (trackAt (ctx .track) 0 0x3FF, 7)
+    ∷ (trackAt (ctx .track) 1 0x3FF, 0)
+    ∷ (trackAt (ctx .track) 2 0x3FF, 7)
+    ∷ (trackAt (lastPage .track) 0 0x3FE, 7)
+    ∷ (trackAt (lastPage .track) 0 0x3FF, 0)
+    ∷ (trackAt (lastPage .track) 1 0, 7)
+    ∷ (trackAt (lastPage .track) 1 0x3FF, 7)
+    ∷ (trackAt (lastPage .track) 2 0x3FE, 7)
+    ∷ (trackAt (lastPage .track) 2 0x3FF, 0)
     ∷ []
 
 -- the word in memory at `at`
@@ -824,27 +825,27 @@ sizes small =
 starting : List ℕ → List (ℕ × ℕ)
 unfolding next
 starting small =
-    let start = started small (replicate 3072 7) 0x80 in
-    let short = started (replicate 4095 5) (replicate 3072 7) 0x80 in
-    let askew = started small (replicate 3072 7) 0x40 in
+    let start = started small (replicate 3072 7) (rooted 0x80) in
+    let short = started (replicate 4095 5) (replicate 3072 7) (rooted 0x80) in
+    let askew = started small (replicate 3072 7) (rooted 0x40) in
     -- context 0, kernel mode, each field of the domain register 1, memory as found
     (answered start, 0)
     ∷ (returned start, packed 0x80 0 0 0x55555555)
     ∷ (bit (same (start .memory) small), 1)
     -- the track emptied, then every page noted that the tables map, in context 0 alone
-    ∷ (wordAt (start .track) 0 0, 0x602)
-    ∷ (wordAt (start .track) 0 1, 0x202)
-    ∷ (wordAt (start .track) 0 2, 0)
-    ∷ (wordAt (start .track) 0 3, 0xE02)
-    ∷ (wordAt (start .track) 0 0x1FF, 0)
-    ∷ (wordAt (start .track) 0 0x200, 0x300302)
-    ∷ (wordAt (start .track) 0 0x2FF, 0x3FF302)
-    ∷ (wordAt (start .track) 0 0x300, 0)
-    ∷ (wordAt (start .track) 0 0x3FF, 0)
-    ∷ (wordAt (start .track) 1 0, 0)
-    ∷ (wordAt (start .track) 1 0x3FF, 0)
-    ∷ (wordAt (start .track) 2 0, 0)
-    ∷ (wordAt (start .track) 2 0x3FF, 0)
+    ∷ (trackAt (start .track) 0 0, 0x602)
+    ∷ (trackAt (start .track) 0 1, 0x202)
+    ∷ (trackAt (start .track) 0 2, 0)
+    ∷ (trackAt (start .track) 0 3, 0xE02)
+    ∷ (trackAt (start .track) 0 0x1FF, 0)
+    ∷ (trackAt (start .track) 0 0x200, 0x300302)
+    ∷ (trackAt (start .track) 0 0x2FF, 0x3FF302)
+    ∷ (trackAt (start .track) 0 0x300, 0)
+    ∷ (trackAt (start .track) 0 0x3FF, 0)
+    ∷ (trackAt (start .track) 1 0, 0)
+    ∷ (trackAt (start .track) 1 0x3FF, 0)
+    ∷ (trackAt (start .track) 2 0, 0)
+    ∷ (trackAt (start .track) 2 0x3FF, 0)
     -- refused: zero registers, memory and track as found
     ∷ (answered short, refusalCode 13)
     ∷ (returned short, packed 0 0 0 0)
@@ -860,7 +861,7 @@ starting small =
 registers : List ℕ → List (ℕ × ℕ)
 unfolding next
 registers small =
-    let start = started small emptyTrack 0x80 in
+    let start = started small emptyTrack (rooted 0x80) in
     let other = next Asid 1 0 0 start in
     let refused = next Root 0x100 0 0 other in
     let rooted = next Root 0x100 0 0 (next Asid 0 0 0 other) in
@@ -917,7 +918,7 @@ registers small =
     ∷ (answered asked, refusalCode 15)
     ∷ (returned asked, packed 0x100 1 1 7)
     -- under the new root pages 0 and 3 are stale: one has two entries, the other one entry and no mapping
-    ∷ (wordAt (moved .track) 1 3, 0xE02)
+    ∷ (trackAt (moved .track) 1 3, 0xE02)
     ∷ (answered (next Read 0x10 4 0 moved), refusalCode 16)
     ∷ (answered (next Read 0x1010 4 0 moved), 0x44332211)
     ∷ (answered (next Read 0x2010 4 0 moved), faultCode 0x8)
@@ -929,7 +930,7 @@ descriptors : List ℕ → List (ℕ × ℕ)
 unfolding next
 descriptors small =
     -- the level-two words of pages 1 and 2 are at 0x404 and 0x408, in page 0
-    let start = started small (replicate 2048 0) 0x80 in
+    let start = started small (replicate 2048 0) (rooted 0x80) in
     let changed = next Write 0x404 4 0x832 start in
     let back = next Write 0x404 4 0x812 changed in
     let flushed = next Addr 0x1000 0 0 back in
@@ -939,28 +940,28 @@ descriptors small =
     let elsewhere = next Write 0x404 4 0x1812 unmapped in
     let mapped = next Write 0x408 4 0x812 start in
     -- AP alone changed: the word is 1, the page stale
-    (wordAt (changed .track) 0 1, 1)
+    (trackAt (changed .track) 0 1, 1)
     ∷ (answered (next Read 0x1010 4 0 changed), refusalCode 16)
     -- its old entry restored, the word is still 1
-    ∷ (wordAt (back .track) 0 1, 1)
+    ∷ (trackAt (back .track) 0 1, 1)
     ∷ (answered (next Read 0x1010 4 0 back), refusalCode 16)
     -- until a flush
-    ∷ (wordAt (flushed .track) 0 1, 0x202)
+    ∷ (trackAt (flushed .track) 0 1, 0x202)
     ∷ (answered (next Read 0x1010 4 0 flushed), 0x44332211)
     -- every ignored bit changed: the same entry
-    ∷ (wordAt (ignored .track) 0 1, 0x202)
+    ∷ (trackAt (ignored .track) 0 1, 0x202)
     ∷ (answered (next Read 0x1010 4 0 ignored), 0x44332211)
     -- and kind 2 to kind 3, which is XN: another entry
-    ∷ (wordAt (unfetchable .track) 0 1, 1)
+    ∷ (trackAt (unfetchable .track) 0 1, 1)
     ∷ (answered (next Read 0x1010 4 0 unfetchable), refusalCode 16)
     -- no mapping any more: the word stays, the page is stale, before fault 7; an unaligned access is fault 1
-    ∷ (wordAt (unmapped .track) 0 1, 0x202)
+    ∷ (trackAt (unmapped .track) 0 1, 0x202)
     ∷ (answered (next Read 0x1010 4 0 unmapped), refusalCode 16)
     ∷ (answered (next Read 0x1011 4 0 unmapped), faultCode 1)
     -- another frame: the word is 1
-    ∷ (wordAt (elsewhere .track) 0 1, 1)
+    ∷ (trackAt (elsewhere .track) 0 1, 1)
     -- a first mapping: the word is its entry, the page not stale
-    ∷ (wordAt (mapped .track) 0 2, 0x202)
+    ∷ (trackAt (mapped .track) 0 2, 0x202)
     ∷ (answered (next Read 0x2010 4 0 mapped), 0x44332211)
     ∷ []
 
@@ -1110,28 +1111,28 @@ words small =
     ∷ (entryWord (record { frame = 0x123; ap = 3; section = 1; global = 1; xn = 0; domain = 0 }), 0x00123782)
     ∷ (entryWord (record { frame = 0x123; ap = 3; section = 0; global = 1; xn = 0; domain = 0 }), 0x00123682)
     -- by steps: odd words stay under noting, and make their pages stale
-    ∷ (wordAt (noted .track) 0 0, 7)
-    ∷ (wordAt (noted .track) 0 1, 0x207)
-    ∷ (wordAt (noted .track) 0 2, 0x1007)
-    ∷ (wordAt (noted .track) 0 3, 3)
+    ∷ (trackAt (noted .track) 0 0, 7)
+    ∷ (trackAt (noted .track) 0 1, 0x207)
+    ∷ (trackAt (noted .track) 0 2, 0x1007)
+    ∷ (trackAt (noted .track) 0 3, 3)
     ∷ (answered (next Read 0x10 4 0 noted), refusalCode 16)
     ∷ (answered (next Read 0x1010 4 0 noted), refusalCode 16)
     ∷ (answered (next Read 0x2010 4 0 noted), refusalCode 16)
     ∷ (answered (next Read 0x3010 4 0 noted), refusalCode 16)
     -- and go with a flush that names them
-    ∷ (wordAt (cleared .track) 0 0, 0x602)
-    ∷ (wordAt (cleared .track) 0 1, 0x207)
+    ∷ (trackAt (cleared .track) 0 0, 0x602)
+    ∷ (trackAt (cleared .track) 0 1, 0x207)
     ∷ (answered (next Read 0x10 4 0 cleared), 0x44332211)
-    ∷ (wordAt (next Addr 0x2000 0 0 noted .track) 0 2, 0)
-    ∷ (wordAt (next Ctx 0 0 0 noted .track) 0 3, 0xE02)
+    ∷ (trackAt (next Addr 0x2000 0 0 noted .track) 0 2, 0)
+    ∷ (trackAt (next Ctx 0 0 0 noted .track) 0 3, 0xE02)
     -- a sole entry of another AP makes its page stale, the tables' own does not
     ∷ (answered (next Read 0x1010 4 0 (given 0x80 0 0 small (0 ∷ 0x602 ∷ replicate 2046 0))), refusalCode 16)
     ∷ (answered (next Read 0x1010 4 0 (given 0x80 0 0 small (0 ∷ 0x202 ∷ replicate 2046 0))), 0x44332211)
     -- so does one of another domain; noting adds the tables' own beside it, and nothing where they map nothing
     ∷ (answered (next Read 0x1010 4 0 domain1), refusalCode 16)
     ∷ (answered (next Read 0x2010 4 0 domain1), refusalCode 16)
-    ∷ (wordAt (next Mode 0 0 0 domain1 .track) 0 1, 1)
-    ∷ (wordAt (next Mode 0 0 0 domain1 .track) 0 2, 0x1006)
+    ∷ (trackAt (next Mode 0 0 0 domain1 .track) 0 1, 1)
+    ∷ (trackAt (next Mode 0 0 0 domain1 .track) 0 2, 0x1006)
     -- by words: in a context's row, and in the global row
     ∷ inRowOf 0
     ++ inRowOf 1

@@ -6,7 +6,7 @@ use mathlib.Core.List.{[], _∷_}
 use lib.ListN.{replicate}
 use Rattle.model.specs.Limits.{pageSize}
 use Rattle.model.specs.Numbers.{refused, shown}
-use Rattle.model.specs.reference.Rules.{found, failed, fresh, outcome, carriedOut, plainStep, walk, descriptor, tableWord, pageWord, globalBy, domainOf, smallPage, bits, value, inMemory, effect, access, translated, touched, stored, aligned, accessSize, mayRead, mayWrite, permits, fieldOf, ruling, ruled, rightOf, physical, among}
+use Rattle.model.specs.reference.Rules.{found, failed, fresh, outcome, carriedOut, plainStep, walk, descriptor, tableWord, pageWord, globalBy, domainOf, smallPage, bits, value, inMemory, effect, access, translated, touched, stored, aligned, accessSize, mayRead, mayWrite, permits, fieldOf, ruling, ruled, rightOf, physical, among, rooted}
 use Rattle.model.specs.reference.Runs.{last, next, checkerRun, isRefused, told}
 use Rattle.model.specs.Invisible.{Session, Accepted, toldOf, atEnd, isAccess, alignedAccess, CouldDiffer, checker}
 use Rattle.model.specs.declared.Operation.{Operation}
@@ -27,7 +27,7 @@ unfoldable pub old : Entry
 old = record { frame = 3; ap = 3; section = 0; global = 0; xn = 0; domain = 0 }
 
 unfoldable pub case : Session
-case = record { image = imageA; track = replicate 2048 0; root = 0; operations = unmap ∷ [] }
+case = record { image = imageA; track = replicate 2048 0; setting = rooted 0; operations = unmap ∷ [] }
 
 pub accepted : Accepted checker case
 unfolding case isRefused stepOn
@@ -54,17 +54,17 @@ unfolding case unmap told isRefused stepOn
 told-is = refl
 
 -- the old entry before the write, none after it
-before-write : outcome (fresh imageA 0) (1 * pageSize) ≡ found old
+before-write : outcome (fresh imageA (rooted 0)) (1 * pageSize) ≡ found old
 unfolding outcome fresh walk descriptor tableWord pageWord smallPage globalBy domainOf bits value inMemory old
 before-write = refl
 
-after-write : outcome (plainStep unmap false (fresh imageA 0) .1) (1 * pageSize) ≡ failed 0x7
+after-write : outcome (plainStep unmap false (fresh imageA (rooted 0)) .1) (1 * pageSize) ≡ failed 0x7
 unfolding plainStep carriedOut effect access translated touched stored aligned accessSize among mayRead mayWrite permits fieldOf ruling ruled rightOf physical outcome fresh walk descriptor tableWord pageWord smallPage domainOf bits value inMemory unmap
 after-write = refl
 
-pub throughout : Throughout 0 1 old (fresh imageA 0) (toldOf checker case)
+pub throughout : Throughout 0 1 old (fresh imageA (rooted 0)) (toldOf checker case)
 throughout =
-    subst (Throughout 0 1 old (fresh imageA 0)) (sym told-is)
+    subst (Throughout 0 1 old (fresh imageA (rooted 0))) (sym told-is)
     (unfold Throughout in (still before-write (unfold fresh in refl), gone 0x7 after-write))
 
 -- a chip that could then hold for page 1 another entry than the present outcome holds the old entry, loaded in context 0

@@ -7,9 +7,9 @@ use mathlib.Core.Option.{Option, none, some}
 use mathlib.Core.List.{List, [], _∷_, _++_, map}
 use native.Mathlib.Omega.{arith}
 use lib.ListN.{length, getD, replicate, length-replicate}
-use Rattle.model.specs.Limits.{pageSize}
+use Rattle.model.specs.Limits.{pageSize, oldWindow, rowSize}
 use Rattle.model.specs.Numbers.{Result, ok, fault, refused, shown}
-use Rattle.model.specs.reference.Rules.{Translation, State, fresh, outcome, carriedOut, plainStep, walk, descriptor, tableWord, section, bits, value, inMemory, effect, access, translated, touched, aligned, accessSize, mayRead, mayWrite, permits, fieldOf, ruling, ruled, rightOf, physical, among, accesses, trackWord, stale, kept, differs, conditions, Given, refuses16, setRegisters, chipOutcome, orWalk, chipStep, moves, move, isFree, heldFor, putIn, flushPlace, flushes, anyClash, matches, covers, heldScope, scopeOf, globalBy, domainOf, Scope, own, global}
+use Rattle.model.specs.reference.Rules.{Translation, State, fresh, outcome, carriedOut, plainStep, walk, descriptor, tableWord, section, bits, value, inMemory, effect, access, translated, touched, aligned, accessSize, mayRead, mayWrite, permits, fieldOf, ruling, ruled, rightOf, physical, among, accesses, trackWord, stale, kept, differs, conditions, Given, refuses16, setRegisters, chipOutcome, orWalk, chipStep, moves, move, isFree, heldFor, putIn, flushPlace, flushes, anyClash, matches, covers, heldScope, scopeOf, globalBy, domainOf, Scope, own, global, rooted}
 use Rattle.model.specs.reference.Runs.{Checker, next, checkerRun, isRefused, seen, told, plainRun, chipStart, chipNext, chipRun, chipSeen}
 use Rattle.model.specs.step.Checks.{checks}
 use Rattle.model.specs.step.Machine.{After, turnedBack, started, stepped}
@@ -66,12 +66,12 @@ run-plain m h x (o ∷ os) =
 started-plain : (step : Operation → Registers → List ℕ → List ℕ → After) → StepsPlain (record { start = started; step = step }) → SamePlain (record { start = started; step = step })
 started-plain step h x acc =
     ap (λ (s : State). plainRun s (toldOf (record { start = started; step = step }) x)) (sym (by-track .begins x acc))
-    ∙ run-plain (record { start = started; step = step }) h (started (x .image) (x .track) (x .root)) (x .operations)
+    ∙ run-plain (record { start = started; step = step }) h (started (x .image) (x .track) (x .setting)) (x .operations)
 
 -- ── `Same .begins`: its start returns user mode ──
 
 pub userStart : Checker
-userStart = record { start = λ i t root. inUserMode (started i t root); step = stepped }
+userStart = record { start = λ i t g. inUserMode (started i t g); step = stepped }
   where
     inUserMode : After → After
     inUserMode x = record {
@@ -146,12 +146,12 @@ thirdAnswer (x ∷ []) = none
 thirdAnswer (x ∷ y ∷ zs) = headAnswer zs
 
 -- the plain machine faults; a chip of one place that loaded page 2 after the first operation reads the 7
-plain-faults : thirdAnswer (plainRun (fresh image 0) readAfter) ≡ some (fault 0x5)
+plain-faults : thirdAnswer (plainRun (fresh image (rooted 0)) readAfter) ≡ some (fault 0x5)
 unfolding thirdAnswer headAnswer plainRun plainStep carriedOut effect setRegisters access translated aligned accessSize among fresh outcome walk descriptor tableWord bits value inMemory readPage2 toRoot image
 plain-faults = refl
 
-chip-reads : thirdAnswer (map chipSeen (chipRun (chipStart 1 (fresh image 0) []) readAfter afterFirst)) ≡ some (ok 7)
-unfolding thirdAnswer headAnswer chipRun chipStart chipNext chipStep chipSeen chipOutcome orWalk effect setRegisters access translated touched aligned accessSize among mayRead mayWrite permits fieldOf ruling ruled rightOf physical fresh moves move isFree heldFor matches anyClash putIn outcome walk descriptor tableWord section globalBy domainOf bits value inMemory heldScope scopeOf covers flushPlace flushes readPage2 toRoot image afterFirst
+chip-reads : thirdAnswer (map chipSeen (chipRun (chipStart 1 (fresh image (rooted 0)) []) readAfter afterFirst)) ≡ some (ok 7)
+unfolding thirdAnswer headAnswer chipRun chipStart chipNext chipStep chipSeen chipOutcome orWalk effect setRegisters access translated touched aligned accessSize among mayRead mayWrite permits fieldOf ruling ruled rightOf physical fresh moves move rowSize isFree heldFor matches anyClash putIn outcome walk descriptor tableWord section globalBy domainOf bits value inMemory heldScope scopeOf covers flushPlace flushes readPage2 toRoot image afterFirst
 chip-reads = refl
 
 faults-reads : _≡_ {A = Option Result} (some (fault 0x5)) (some (ok 7)) → ⊥
@@ -164,9 +164,9 @@ unfolding session told
 no-copying-chip m ord by w agrees =
     faults-reads
     (sym plain-faults
-    ∙ ap (λ l. thirdAnswer (plainRun (fresh image 0) l)) (sym told-all)
+    ∙ ap (λ l. thirdAnswer (plainRun (fresh image (rooted 0)) l)) (sym told-all)
     ∙ ap thirdAnswer (plain all acc ∙ sym (agrees all acc 0 [] afterFirst))
-    ∙ ap (λ l. thirdAnswer (map chipSeen (chipRun (chipStart 1 (fresh image 0) []) l afterFirst))) told-all
+    ∙ ap (λ l. thirdAnswer (map chipSeen (chipRun (chipStart 1 (fresh image (rooted 0)) []) l afterFirst))) told-all
     ∙ chip-reads)
   where
     plain : SamePlain m
@@ -228,11 +228,11 @@ zero-at (suc n) zero = refl
 zero-at (suc n) (suc i) = zero-at n i
 
 -- so no page is stale by it, in any context
-emptied-word : (t : List ℕ) (u : Scope) (p : ℕ) → trackWord (emptied t) u p ≡ 0
+emptied-word : (t : List ℕ) (u : Scope) (p : ℕ) → trackWord oldWindow (emptied t) u p ≡ 0
 unfolding emptied trackWord
 emptied-word t u p = zero-at (length t) _
 
-emptied-free : (t : List ℕ) (c p : ℕ) (y : Translation) → stale (emptied t) c p y ≡ false
+emptied-free : (t : List ℕ) (c p : ℕ) (y : Translation) → stale oldWindow (emptied t) c p y ≡ false
 unfolding stale kept differs
 emptied-free t c p y = rw (emptied-word t (own c) p, emptied-word t global p)
 
@@ -241,7 +241,7 @@ unfolding forgetful refuses16
 emptied-never o g i t q =
     let y = walk i (g .root) (o .a) in
     true≢false
-    (sym (and-both (among (o .kind) accesses && aligned (o .a) (accessSize o)) (stale (emptied t) (g .context) (o .a / pageSize) y) (by-track .says16 o g i (emptied t) q) .1)
+    (sym (and-both (among (o .kind) accesses && aligned (o .a) (accessSize o)) (stale oldWindow (emptied t) (g .context) (o .a / pageSize) y) (by-track .says16 o g i (emptied t) q) .1)
     ∙ emptied-free t (g .context) (o .a / pageSize) y)
 
 -- it refuses by other numbers as the rules do: their conditions ask no more of the track than its length

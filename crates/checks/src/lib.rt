@@ -7,6 +7,7 @@ ghost use Rattle.model.specs.declared.Refusal.the-variants.{WrongRoot, WrongCon
 ghost use Rattle.model.specs.step.Checks.{sizeFits, addressFits, valueFits, newRootFits, contextFits, modeFits, newDomainsFit, mayAsk, rootMayChange, checks, startChecks, firstFailing, Says};
 use limits::domains_fit;
 use limits::fits_size;
+use limits::in_window;
 use limits::is_size;
 use limits::last_row;
 use limits::lengths_fit;
@@ -14,9 +15,12 @@ use limits::registers_fit;
 use limits::root_fits;
 use model::Check;
 use model::Kind;
+use model::OLD_SPLIT;
+use model::OLD_WINDOW;
 use model::Operation;
 use model::Refusal;
 use model::Registers;
+use model::Setting;
 
 // Whether the size of a read or a write is one.
 pub fn size_fits(kind: Kind, b: u32) -> bool
@@ -30,15 +34,16 @@ pub fn size_fits(kind: Kind, b: u32) -> bool
 }
 
 // Whether the virtual address of an operation lies in the window.
-pub fn address_fits(kind: Kind, a: u32) -> bool
-    ensures { λ r. ⌜ r ≡ addressFits kind a ⌝ }
+pub fn address_fits(window: u32, kind: Kind, a: u32) -> bool
+    ensures { λ r. ⌜ r ≡ addressFits window kind a ⌝ }
 {
+    let inside = in_window(window, a);
     match kind {
-        Kind::Read => a < 4194304, // addressLimit
-        Kind::Write => a < 4194304, // addressLimit
-        Kind::Addr => a < 4194304, // addressLimit
-        Kind::AddrCtx => a < 4194304, // addressLimit
-        Kind::Fetch => a < 4194304, // addressLimit
+        Kind::Read => inside,
+        Kind::Write => inside,
+        Kind::Addr => inside,
+        Kind::AddrCtx => inside,
+        Kind::Fetch => inside,
         _ => true,
     }
 }
@@ -54,11 +59,11 @@ pub fn value_fits(kind: Kind, b: u32, c: u32) -> bool
 }
 
 // Whether a new root has its alignment.
-pub fn new_root_fits(kind: Kind, a: u32) -> bool
-    ensures { λ r. ⌜ r ≡ newRootFits kind a ⌝ }
+pub fn new_root_fits(split: u32, kind: Kind, a: u32) -> bool
+    ensures { λ r. ⌜ r ≡ newRootFits split kind a ⌝ }
 {
     match kind {
-        Kind::Root => root_fits(a),
+        Kind::Root => root_fits(split, a),
         _ => true,
     }
 }
@@ -155,13 +160,13 @@ pub fn check(o: Operation, r: Registers, m: usize, t: usize) -> Check
     ensures { λ x. ⌜ Says (firstFailing (checks o r m t)) x ⌝ }
 {
     let kind = o.kind;
-    let lengths = lengths_fit(m, t);
-    let contexts = last_row(t);
+    let lengths = lengths_fit(OLD_WINDOW, m, t);
+    let contexts = last_row(OLD_WINDOW, t);
     let registers = registers_fit(r, contexts);
     let size = size_fits(kind, o.b);
-    let address = address_fits(kind, o.a);
+    let address = address_fits(OLD_WINDOW, kind, o.a);
     let value = value_fits(kind, o.b, o.c);
-    let root = new_root_fits(kind, o.a);
+    let root = new_root_fits(OLD_SPLIT, kind, o.a);
     let context = context_fits(kind, o.a, o.b, contexts);
     let mode = mode_fits(kind, o.a);
     let domains = new_domains_fit(kind, o.a);
@@ -186,13 +191,13 @@ pub fn check(o: Operation, r: Registers, m: usize, t: usize) -> Check
 }
 
 // The first check that a start fails.
-pub fn check_start(m: usize, t: usize, root: u32) -> Check
-    ensures { λ x. ⌜ Says (firstFailing (startChecks m t root)) x ⌝ }
+pub fn check_start(m: usize, t: usize, setting: Setting) -> Check
+    ensures { λ x. ⌜ Says (firstFailing (startChecks m t setting)) x ⌝ }
 {
-    if !lengths_fit(m, t) {
+    if !lengths_fit(OLD_WINDOW, m, t) {
         return Check::Refuse(Refusal::WrongLengths);
     }
-    if root_fits(root) {
+    if root_fits(OLD_SPLIT, setting.root) {
         return Check::Pass;
     }
     Check::Refuse(Refusal::WrongRoot)

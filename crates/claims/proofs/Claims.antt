@@ -1,23 +1,26 @@
 -- What is claimed, in the order of the rules: above each theorem stands its sentence, and its type says the sentence in full, in words of the
 -- reference (`Rules`, `Runs` in crates/model/specs/reference) and of lists, reports and lines (crates/listing/specs, report/specs, lines/specs). Each
 -- proof cites the theorem that has it. Words that are not the reference's own are defined first; `started` and `stepped` are what the code is proved to carry out.
-use Prim.Native.Nat.{ℕ, suc, _+_, _*_, _/_, _<_, _≤_}
+use Prim.Native.Nat.{ℕ, suc, _+_, _*_, _-_, _/_, _^_, _<_, _≤_}
 use mathlib.Core.Path.{_≡_, refl}
 use mathlib.Core.Logic.{_⊎_, inl, inr, _↔_}
 use mathlib.Core.Bool.{Bool, true, false, cond, not, _||_}
 use mathlib.Core.List.{List, [], _∷_, _++_, map}
 use mathlib.Core.Option.{Option, none, some}
+use native.Mathlib.Nat.{mul-comm}
 use lib.Dec.{eqb}
 use lib.ListN.{length, getD, replicate, take}
 use borrow.Author.Tests.{le-leb, lt-leb, eq-eqb}
-use Rattle.model.specs.Limits.{pageSize, rowSize, addressLimit}
+use Rattle.model.specs.Limits.{pageSize, oldSplit, oldWindow, addressLimit, rowSize, rootAlignment}
 use Rattle.model.specs.Numbers.{kindNumber, Result, ok, fault, refused, shown}
-use Rattle.model.specs.reference.Rules.{Translation, found, failed, inMemory, value, bits, domainOf, section, tableWord, walk, physical, ruling, State, fresh, stored, aligned, among, accessSize, effect, outcome, carriedOut, Scope, global, scopeOf, covers, flushes, Held, Places, heldScope, matches, Move, drop, load, move, moves, chipOutcome, flushPlace, chipStep, several, one, kept, wordOf, suits, notedIn, wordAfter, hasRow, trackWord, stale, conditions, startConditions, walkConditions, Given, translationNumber, refusedWalk}
+use Rattle.model.specs.reference.Rules.{Translation, found, failed, inMemory, value, bits, domainOf, section, tableWord, walk, physical, ruling, State, rooted, fresh, stored, aligned, among, accessSize, effect, outcome, carriedOut, Scope, global, scopeOf, covers, flushes, Held, Places, heldScope, matches, Move, drop, load, move, moves, chipOutcome, flushPlace, chipStep, several, one, kept, wordOf, suits, notedIn, wordAfter, hasRow, trackWord, stale, conditions, startConditions, walkConditions, Given, translationNumber, refusedWalk}
 use Rattle.model.specs.reference.Runs.{last, Checker, checkerRun, isRefused, seen, told, plainRun, Moment, chipStart, chipNext, chipRun, chipSeen, Holds}
 use Rattle.model.specs.step.Machine.{After, started, stepped}
 use Rattle.model.specs.step.Track.{noteTrack}
 use Rattle.model.specs.step.WalkAnswer.{walkAnswer}
 use Rattle.model.specs.declared.Registers.{Registers}
+use Rattle.model.specs.declared.Setting.{Setting}
+use Rattle.model.specs.declared.Tables.{Tables}
 use Rattle.model.specs.declared.Operation.{Operation}
 use Rattle.model.specs.declared.Entry.{Entry}
 use Rattle.model.specs.declared.Kind.{Kind}
@@ -32,9 +35,10 @@ use Rattle.model.proofs.OddWords.{odd-words}
 use Rattle.model.proofs.SingleWalk.{single-walk}
 use Rattle.model.proofs.ThirdDemand.{invisible}
 use Rattle.model.proofs.Pinned.{pinned}
-use Rattle.runs.specs.Used.{Used, Untouched, Reads}
+use Rattle.runs.specs.Used.{windowWords, Used, Untouched, Reads}
 use Rattle.runs.specs.Quiet.{quiet}
 use Rattle.runs.specs.Step.{runStepped}
+use Rattle.runs.proofs.UsedLaws.{window-words}
 use Rattle.runs.proofs.Walks.{used-by-walks}
 use Rattle.runs.proofs.SameRuns.{quiet-stores, same-runs}
 use Rattle.runs.proofs.Cuts.{cuts}
@@ -88,38 +92,38 @@ visible x = (shown (x .answer), stateAfter x)
 abbrev pub Passes : Operation → Registers → List ℕ → List ℕ → Type 0
 Passes o r m t = (n : ℕ) → Given n (conditions o r m t) → ⊥
 
-abbrev pub StartPasses : List ℕ → List ℕ → ℕ → Type 0
-StartPasses m t root = (n : ℕ) → Given n (startConditions m t root) → ⊥
+abbrev pub StartPasses : List ℕ → List ℕ → Setting → Type 0
+StartPasses m t g = (n : ℕ) → Given n (startConditions m t g) → ⊥
 
 -- A list of operations after a start: that the start is accepted, and the runs of the checker, the plain machine and a chip of n places.
-module _ (image track : List ℕ) (root : ℕ) where
+module _ (image track : List ℕ) (g : Setting) where
   abbrev pub Accepted : Type 0
-  Accepted = isRefused (shown (started image track root .answer)) ≡ false
+  Accepted = isRefused (shown (started image track g .answer)) ≡ false
 
   module _ (os : List Operation) where
     abbrev pub myRun : List After
-    myRun = checkerRun mine (started image track root) os
+    myRun = checkerRun mine (started image track g) os
 
     abbrev pub myEnd : After
-    myEnd = last (started image track root) myRun
+    myEnd = last (started image track g) myRun
 
     abbrev pub toldOf : List (Operation × Bool)
-    toldOf = told mine (started image track root) os
+    toldOf = told mine (started image track g) os
 
     abbrev pub plainOf : List (Option Result × State)
-    plainOf = plainRun (fresh image root) toldOf
+    plainOf = plainRun (fresh image g) toldOf
 
     abbrev pub plainEnd : State
-    plainEnd = last (none, fresh image root) plainOf .1
+    plainEnd = last (none, fresh image g) plainOf .1
 
     abbrev pub chipOf : ℕ → List Move → (ℕ → List Move) → List Moment
-    chipOf n first script = chipRun (chipStart n (fresh image root) first) toldOf script
+    chipOf n first script = chipRun (chipStart n (fresh image g) first) toldOf script
 
     abbrev pub heldAtEnd : ℕ → List Move → (ℕ → List Move) → Places
-    heldAtEnd n first script = last (chipStart n (fresh image root) first) (chipOf n first script) .held
+    heldAtEnd n first script = last (chipStart n (fresh image g) first) (chipOf n first script) .held
 
     abbrev given : Session
-    given = record { image = image; track = track; root = root; operations = os }
+    given = record { image = image; track = track; setting = g; operations = os }
 
 abbrev call : Operation → Registers → List ℕ → List ℕ → Call
 call o r m t = record { operation = o; registers = r; memory = m; track = t }
@@ -130,7 +134,7 @@ call o r m t = record { operation = o; registers = r; memory = m; track = t }
 pub operation-ends : (o : Operation) (r : Registers) (m t : List ℕ) (n : ℕ) → (shown (stepped o r m t .answer) ≡ refused n) ↔ Given n (conditions o r m t)
 operation-ends o r m t = total .exactly (call o r m t)
 
-pub start-ends : (m t : List ℕ) (root n : ℕ) → (shown (started m t root .answer) ≡ refused n) ↔ Given n (startConditions m t root)
+pub start-ends : (m t : List ℕ) (g : Setting) (n : ℕ) → (shown (started m t g .answer) ≡ refused n) ↔ Given n (startConditions m t g)
 start-ends = total .startExactly
 
 -- "A refused operation carries its number, and memory, track and registers hold afterwards what they held before." "A refused start returns zero registers."
@@ -138,9 +142,18 @@ pub refused-operation-changes-nothing : (o : Operation) (r : Registers) (m t : L
     (stepped o r m t .registers ≡ r) × (stepped o r m t .memory ≡ m) × (stepped o r m t .track ≡ t)
 refused-operation-changes-nothing o r m t n e = let l = total .unchanged (call o r m t) n e in (l .registers, l .memory, l .track)
 
-pub refused-start-changes-nothing : (m t : List ℕ) (root n : ℕ) → shown (started m t root .answer) ≡ refused n →
-    (started m t root .registers ≡ record { root = 0; context = 0; mode = 0; domains = 0 }) × (started m t root .memory ≡ m) × (started m t root .track ≡ t)
-refused-start-changes-nothing m t root n e = let l = total .startUnchanged m t root n e in (l .registers, l .memory, l .track)
+pub refused-start-changes-nothing : (m t : List ℕ) (g : Setting) (n : ℕ) → shown (started m t g .answer) ≡ refused n →
+    (started m t g .registers ≡ record { root = 0; context = 0; mode = 0; domains = 0 }) × (started m t g .memory ≡ m) × (started m t g .track ≡ t)
+refused-start-changes-nothing m t g n e = let l = total .startUnchanged m t g n e in (l .registers, l .memory, l .track)
+
+-- The numbers that the conditions go by: addresses below 0x400000, rows of 1,024 words, roots that are multiples of 0x80; and for any window of w MiB and any N.
+pub limits-of-the-machine : (addressLimit oldWindow ≡ 0x400000) × (rowSize oldWindow ≡ 1024) × (rootAlignment oldSplit ≡ 0x80) × (windowWords oldWindow ≡ 4)
+unfolding addressLimit rowSize rootAlignment windowWords
+limits-of-the-machine = (refl, refl, refl, refl)
+
+pub limits-of-a-window : (w n : ℕ) → (addressLimit w ≡ 0x100000 * w) × (rowSize w ≡ 256 * w) × (rootAlignment n ≡ 2 ^ (14 - n)) × (windowWords w ≡ w)
+unfolding addressLimit rowSize rootAlignment
+limits-of-a-window w n = (mul-comm w 0x100000, refl, refl, window-words w)
 
 -- "List, per line in this order: 1 list too long (line 1); 2 names line; 3 not four fields and a newline; 4 a value's spelling; 5 unknown operation; 6
 -- unused field not zero." A line, a whole list with the number of the line, and a list that is read to its end.
@@ -179,37 +192,37 @@ pub carried-out-by-the-rules : (o : Operation) (r : Registers) (m t : List ℕ) 
 carried-out-by-the-rules o r m t = faithful .plain (call o r m t)
 
 -- "Start sets context 0 and kernel mode, empties the track, then notes it. It leaves memory as found."
-pub started-by-the-rules : (m t : List ℕ) (root : ℕ) → StartPasses m t root → visible (started m t root) ≡ (ok 0, fresh m root)
+pub started-by-the-rules : (m t : List ℕ) (g : Setting) → StartPasses m t g → visible (started m t g) ≡ (ok 0, fresh m g)
 started-by-the-rules = faithful .start
 
 -- "A flush empties the sets it names, and then noting follows": what each word of the track holds after a start and after an operation.
-pub start-notes : (m t : List ℕ) (root : ℕ) → StartPasses m t root → (u : Scope) (page : ℕ) → hasRow t u ≡ true → page < rowSize →
-    trackWord (started m t root .track) u page ≡ notedIn (fresh m root) u page 0
+pub start-notes : (m t : List ℕ) (g : Setting) → StartPasses m t g → (u : Scope) (page : ℕ) → hasRow oldWindow t u ≡ true → page < rowSize oldWindow →
+    trackWord oldWindow (started m t g .track) u page ≡ notedIn (fresh m g) u page 0
 start-notes = faithful .startWords
 
-pub operation-notes : (o : Operation) (r : Registers) (m t : List ℕ) → Passes o r m t → (u : Scope) (page : ℕ) → hasRow t u ≡ true → page < rowSize →
-    trackWord (stepped o r m t .track) u page ≡ wordAfter o (carriedOut o (record { memory = m; registers = r }) .1) u page (trackWord t u page)
+pub operation-notes : (o : Operation) (r : Registers) (m t : List ℕ) → Passes o r m t → (u : Scope) (page : ℕ) → hasRow oldWindow t u ≡ true → page < rowSize oldWindow →
+    trackWord oldWindow (stepped o r m t .track) u page ≡ wordAfter o (carriedOut o (record { memory = m; registers = r }) .1) u page (trackWord oldWindow t u page)
 operation-notes o r m t = faithful .words (call o r m t)
 
-pub tracks-keep-their-length : (o : Operation) (r : Registers) (m t : List ℕ) (root : ℕ) →
-    (length (stepped o r m t .track) ≡ length t) × (length (started m t root .track) ≡ length t)
-tracks-keep-their-length o r m t root = (faithful .trackLength (call o r m t), faithful .startTrackLength m t root)
+pub tracks-keep-their-length : (o : Operation) (r : Registers) (m t : List ℕ) (g : Setting) →
+    (length (stepped o r m t .track) ≡ length t) × (length (started m t g .track) ≡ length t)
+tracks-keep-their-length o r m t g = (faithful .trackLength (call o r m t), faithful .startTrackLength m t g)
 
 -- "Any other word counts as 1, and stays as found until a flush empties it."
 pub other-words-count-as-several : (u : Scope) (w : ℕ) → (w ≡ 0 → ⊥) →
     ((e : Entry) → e .frame < 0x100000 → e .ap < 8 → e .section < 2 → e .global < 2 → e .xn < 2 → e .domain < 16 → suits u e ≡ true → w ≡ wordOf e → ⊥) → kept u w ≡ several
 other-words-count-as-several = odd-words .counts
 
-pub other-words-stay : (o : Operation) (r : Registers) (m t : List ℕ) → Passes o r m t → (u : Scope) (page : ℕ) → hasRow t u ≡ true → page < rowSize →
-    kept u (trackWord t u page) ≡ several → flushes (o .kind) o u page ≡ false → trackWord (stepped o r m t .track) u page ≡ trackWord t u page
+pub other-words-stay : (o : Operation) (r : Registers) (m t : List ℕ) → Passes o r m t → (u : Scope) (page : ℕ) → hasRow oldWindow t u ≡ true → page < rowSize oldWindow →
+    kept u (trackWord oldWindow t u page) ≡ several → flushes (o .kind) o u page ≡ false → trackWord oldWindow (stepped o r m t .track) u page ≡ trackWord oldWindow t u page
 other-words-stay o r m t = odd-words .stays (call o r m t)
 
-pub other-words-are-stale : (t : List ℕ) (u : Scope) (context page : ℕ) (y : Translation) → covers u context ≡ true → kept u (trackWord t u page) ≡ several →
-    stale t context page y ≡ true
+pub other-words-are-stale : (w : ℕ) (t : List ℕ) (u : Scope) (context page : ℕ) (y : Translation) → covers u context ≡ true → kept u (trackWord w t u page) ≡ several →
+    stale w t context page y ≡ true
 other-words-are-stale = odd-words .isStale
 
-pub other-words-go : (o : Operation) (r : Registers) (m t : List ℕ) → Passes o r m t → (u : Scope) (page : ℕ) → hasRow t u ≡ true → page < rowSize →
-    flushes (o .kind) o u page ≡ true → trackWord (stepped o r m t .track) u page ≡ notedIn (carriedOut o (record { memory = m; registers = r }) .1) u page 0
+pub other-words-go : (o : Operation) (r : Registers) (m t : List ℕ) → Passes o r m t → (u : Scope) (page : ℕ) → hasRow oldWindow t u ≡ true → page < rowSize oldWindow →
+    flushes (o .kind) o u page ≡ true → trackWord oldWindow (stepped o r m t .track) u page ≡ notedIn (carriedOut o (record { memory = m; registers = r }) .1) u page 0
 other-words-go o r m t = odd-words .goes (call o r m t)
 
 -- "Two accepted lists with the same operations and field values are the same bytes": an accepted list is the text of its operations, and such a text is accepted.
@@ -243,42 +256,42 @@ printed-lists-are-accepted os h = canonical .accepted os (all-valid os h)
 -- "Take every list of operations of any kind, refused ones included, after an accepted fresh start, each handed the registers that the call before returned
 -- and the memory and track it left. Take with it a TLB of any size from one entry up. Whatever it does, the chip with it, the machine with none and mine give
 -- each operation not refused the same answer, and agree after every operation in all registers and memory bytes."
-pub the-tlb-makes-no-difference : (image track : List ℕ) (root : ℕ) → Accepted image track root → (os : List Operation) →
-    (stateAfter (started image track root) ≡ fresh image root)
-    × (plainOf image track root os ≡ map seen (myRun image track root os))
-    × ((n : ℕ) (first : List Move) (script : ℕ → List Move) → map chipSeen (chipOf image track root os (suc n) first script) ≡ map seen (myRun image track root os))
-the-tlb-makes-no-difference image track root acc os =
-    let x = given image track root os in (invisible .same .begins x acc, invisible .same .plain x acc, invisible .same .chip x acc)
+pub the-tlb-makes-no-difference : (image track : List ℕ) (g : Setting) → Accepted image track g → (os : List Operation) →
+    (stateAfter (started image track g) ≡ fresh image g)
+    × (plainOf image track g os ≡ map seen (myRun image track g os))
+    × ((n : ℕ) (first : List Move) (script : ℕ → List Move) → map chipSeen (chipOf image track g os (suc n) first script) ≡ map seen (myRun image track g os))
+the-tlb-makes-no-difference image track g acc os =
+    let x = given image track g os in (invisible .same .begins x acc, invisible .same .plain x acc, invisible .same .chip x acc)
 
 -- ── Demand 3, the second half ──
 -- "After such a list, an aligned access that no earlier check turns back is refused as stale exactly when some such TLB could then hold for that page and
 -- context an entry other than the tables' present outcome."
-pub stale-exactly-when : (image track : List ℕ) (root : ℕ) → Accepted image track root → (os : List Operation) (o : Operation) →
+pub stale-exactly-when : (image track : List ℕ) (g : Setting) → Accepted image track g → (os : List Operation) (o : Operation) →
     among (o .kind) (Read ∷ Write ∷ Fetch ∷ []) ≡ true →
     (eqb (accessSize o) 1 || eqb (accessSize o) 2 || eqb (accessSize o) 4) ≡ true →
     aligned (o .a) (accessSize o) ≡ true →
-    let end = myEnd image track root os in
-    let plain = plainEnd image track root os in
+    let end = myEnd image track g os in
+    let plain = plainEnd image track g os in
     let after = stepped o (end .registers) (end .memory) (end .track) in
     ((n : ℕ) → shown (after .answer) ≡ refused n → n ≡ 16) →
     (shown (after .answer) ≡ refused 16)
     ↔ ((n : ℕ) × (first : List Move) × (script : ℕ → List Move) × (h : Held)
-    × Holds h (heldAtEnd image track root os (suc n) first script)
+    × Holds h (heldAtEnd image track g os (suc n) first script)
     × (matches h (plain .registers .context) (o .a / pageSize) ≡ true)
     × (outcome plain (o .a) ≡ found (h .entry) → ⊥))
-stale-exactly-when image track root acc os o access size divides only16 =
+stale-exactly-when image track g acc os o access size divides only16 =
     let aligned-access : alignedAccess o ≡ true = unfold alignedAccess isAccess in rw (access, size, divides) in
-    let both = invisible .exactly .stale (given image track root os) acc o aligned-access only16 in (
+    let both = invisible .exactly .stale (given image track g os) acc o aligned-access only16 in (
       λ e. let d = both .0 e in (d .places, d .first, d .script, d .held, d .holds, d .matching, d .other),
       λ d. both .1 (record { places = d .0; first = d .1; script = d .2; held = d .3; holds = d .4; matching = d .5; other = d .6 }),
     )
 
 -- The checker, the plain machine and every chip come to one state, of which the second half speaks.
-pub all-end-in-one-state : (image track : List ℕ) (root : ℕ) → Accepted image track root → (os : List Operation) →
-    (stateAfter (myEnd image track root os) ≡ plainEnd image track root os)
+pub all-end-in-one-state : (image track : List ℕ) (g : Setting) → Accepted image track g → (os : List Operation) →
+    (stateAfter (myEnd image track g os) ≡ plainEnd image track g os)
     × ((n : ℕ) (first : List Move) (script : ℕ → List Move) →
-    last (chipStart (suc n) (fresh image root) first) (chipOf image track root os (suc n) first script) .state ≡ plainEnd image track root os)
-all-end-in-one-state image track root acc os = let x = given image track root os in (pinned .checkerEnds x acc, pinned .chipEnds x acc)
+    last (chipStart (suc n) (fresh image g) first) (chipOf image track g os (suc n) first script) .state ≡ plainEnd image track g os)
+all-end-in-one-state image track g acc os = let x = given image track g os in (pinned .checkerEnds x acc, pinned .chipEnds x acc)
 
 -- ── Demand 3, the TLB ──
 -- "A TLB that begins empty": and makes its first moves from there.
@@ -329,7 +342,7 @@ drops-what-it-likes s ps i j = (pinned .drops s ps i, pinned .dropsOnly s ps i j
 
 -- "Loads any page now mapped in the current context that it doesn't hold", "only where none matches": with a place free, unless something held matches, in some context, a
 -- page that the new entry would match there too.
-pub loads-any-mapped-page : (s : State) (ps : Places) (i page : ℕ) (e : Entry) → i < length ps → getD ps i none ≡ none → page < rowSize →
+pub loads-any-mapped-page : (s : State) (ps : Places) (i page : ℕ) (e : Entry) → i < length ps → getD ps i none ≡ none → page < rowSize oldWindow →
     outcome s (page * pageSize) ≡ found e →
     let new : Held = record { context = s .registers .context; page = page; entry = e } in
     ((h : Held) (context p : ℕ) → Holds h ps → matches h context p ≡ true → matches new context p ≡ true → ⊥) →
@@ -353,34 +366,34 @@ a-failed-walk-answers o s f n access size divides =
 -- ── The report ──
 -- the lines of the report of memory m and list l before its end or the list refusal
 abbrev pub linesOfReport : List ℕ → List ℕ → List ℕ → List AnswerLine
-linesOfReport m t l = answerLines 2 (readList l .operations) (myRun m t 0 (readList l .operations))
+linesOfReport m t l = answerLines 2 (readList l .operations) (myRun m t (rooted 0) (readList l .operations))
 
 -- what a line shows, if it is not `refused`
 abbrev pub shownBy : AnswerLine → Option Result
 shownBy r = cond (isRefused (r .result)) none (some (r .result))
 
 -- "It prints the names, then one line per list line read. A list refusal ends the report; the lines before it have been carried out."
-pub report-after-an-accepted-start : (m t l : List ℕ) → Accepted m t 0 →
+pub report-after-an-accepted-start : (m t l : List ℕ) → Accepted m t (rooted 0) →
     reportOf m t l .text ≡ header ++ (answerText (linesOfReport m t l) ++ endText (readList l .ending))
 report-after-an-accepted-start = honest .accepted
 
 -- "A refused start prints line 0, operation `start`, and ends the report before the list is looked at."
-pub report-after-a-refused-start : (m t l : List ℕ) → isRefused (shown (started m t 0 .answer)) ≡ true →
-    reportOf m t l .text ≡ header ++ reportLine 0 startName (shown (started m t 0 .answer))
+pub report-after-a-refused-start : (m t l : List ℕ) → isRefused (shown (started m t (rooted 0) .answer)) ≡ true →
+    reportOf m t l .text ≡ header ++ reportLine 0 startName (shown (started m t (rooted 0) .answer))
 report-after-a-refused-start = honest .refusedStart
 
 pub known-before-the-list : (i t : List ℕ) (n : ℕ) → n ≤ length i → length t ≡ trackLength →
-    looksAtList n ≡ not (isRefused (shown (started (take (memoryLength n) i) t 0 .answer)))
+    looksAtList n ≡ not (isRefused (shown (started (take (memoryLength n) i) t (rooted 0) .answer)))
 known-before-the-list = honest .beforeTheList
 
 -- Each line that is not `refused` shows the answer of the plain machine and of every chip; and no report is longer than its buffer.
-pub report-shows-the-plain-machine : (m t l : List ℕ) → Accepted m t 0 →
-    map shownBy (linesOfReport m t l) ≡ map (λ (x : Option Result × State). x .0) (plainOf m t 0 (readList l .operations))
+pub report-shows-the-plain-machine : (m t l : List ℕ) → Accepted m t (rooted 0) →
+    map shownBy (linesOfReport m t l) ≡ map (λ (x : Option Result × State). x .0) (plainOf m t (rooted 0) (readList l .operations))
 unfolding unlessRefused
 report-shows-the-plain-machine = honest .plain
 
-pub report-shows-every-chip : (m t l : List ℕ) → Accepted m t 0 → (n : ℕ) (first : List Move) (script : ℕ → List Move) →
-    map shownBy (linesOfReport m t l) ≡ map (λ (x : Moment). x .answer) (chipOf m t 0 (readList l .operations) (suc n) first script)
+pub report-shows-every-chip : (m t l : List ℕ) → Accepted m t (rooted 0) → (n : ℕ) (first : List Move) (script : ℕ → List Move) →
+    map shownBy (linesOfReport m t l) ≡ map (λ (x : Moment). x .answer) (chipOf m t (rooted 0) (readList l .operations) (suc n) first script)
 unfolding unlessRefused
 report-shows-every-chip = honest .chip
 
@@ -409,8 +422,8 @@ pub L1-equal-pages : (m : List ℕ) (a w v : ℕ) → bits 1 0 v ≡ 1 → domai
     value m (secondPlace a v) 4 ≡ equalPage a w → tableWord m a v ≡ found (asPage (section a w))
 L1-equal-pages = section-remembered .alone
 
-pub L1-split-section-is-stale : (m t : List ℕ) (a w v : ℕ) (u : Scope) (context : ℕ) → tableWord m a v ≡ found (asPage (section a w)) → covers u context ≡ true →
-    kept u (trackWord t u (a / pageSize)) ≡ one (section a w) → stale t context (a / pageSize) (tableWord m a v) ≡ true
+pub L1-split-section-is-stale : (m t : List ℕ) (window a w v : ℕ) (u : Scope) (context : ℕ) → tableWord m a v ≡ found (asPage (section a w)) → covers u context ≡ true →
+    kept u (trackWord window t u (a / pageSize)) ≡ one (section a w) → stale window t context (a / pageSize) (tableWord m a v) ≡ true
 L1-split-section-is-stale = section-remembered .stale
 
 -- ── L2: shared kernel mappings ──
@@ -420,20 +433,20 @@ abbrev pub unrefused : List Operation → List (Operation × Bool)
 unrefused os = map (λ o. (o, false)) os
 
 pub L2-used-in-every-context :
-    (image : List ℕ) × (root : ℕ) × (os : List Operation) × (o : Operation) × (n : ℕ) × (first : List Move) × (script : ℕ → List Move) × (h : Held) × (v : ℕ) × (code : ℕ)
-    × (let plain = last (none, fresh image root) (plainRun (fresh image root) (unrefused os)) .1 in
-    let begin = chipStart n (fresh image root) first in
-    Holds h (heldAfter n (fresh image root) (unrefused os) first script)
+    (image : List ℕ) × (g : Setting) × (os : List Operation) × (o : Operation) × (n : ℕ) × (first : List Move) × (script : ℕ → List Move) × (h : Held) × (v : ℕ) × (code : ℕ)
+    × (let plain = last (none, fresh image g) (plainRun (fresh image g) (unrefused os)) .1 in
+    let begin = chipStart n (fresh image g) first in
+    Holds h (heldAfter n (fresh image g) (unrefused os) first script)
     × (heldScope h ≡ global)
     × (h .context ≡ plain .registers .context → ⊥)
     × (matches h (plain .registers .context) (o .a / pageSize) ≡ true)
     × (outcome plain (o .a) ≡ failed code)
     × (last begin (chipRun begin (unrefused (os ++ o ∷ [])) script) .answer ≡ some (ok v))
-    × (last (none, fresh image root) (plainRun (fresh image root) (unrefused (os ++ o ∷ []))) .0 ≡ some (fault code)))
+    × (last (none, fresh image g) (plainRun (fresh image g) (unrefused (os ++ o ∷ []))) .0 ≡ some (fault code)))
 L2-used-in-every-context =
     let x = used-across in (
       x .image,
-      x .root,
+      x .setting,
       x .before,
       x .access,
       x .places,
@@ -459,32 +472,32 @@ L2-flushes-of-global-entries o page =
 -- ── L3: instruction fetch ──
 -- "The sameness with and without a TLB covers fetched words too": the halves above are of lists with fetches, whose answers are the words; and a fetch of a multiple of 4 that
 -- no other number turns back is refused as stale exactly when some TLB could differ.
-pub L3-fetches-too : (image track : List ℕ) (root : ℕ) → Accepted image track root → (os : List Operation) (a b c : ℕ) → aligned a 4 ≡ true →
-    let end = myEnd image track root os in
-    let plain = plainEnd image track root os in
+pub L3-fetches-too : (image track : List ℕ) (g : Setting) → Accepted image track g → (os : List Operation) (a b c : ℕ) → aligned a 4 ≡ true →
+    let end = myEnd image track g os in
+    let plain = plainEnd image track g os in
     let after = stepped (record { kind = Fetch; a = a; b = b; c = c }) (end .registers) (end .memory) (end .track) in
     ((n : ℕ) → shown (after .answer) ≡ refused n → n ≡ 16) →
     (shown (after .answer) ≡ refused 16)
     ↔ ((n : ℕ) × (first : List Move) × (script : ℕ → List Move) × (h : Held)
-    × Holds h (heldAtEnd image track root os (suc n) first script)
+    × Holds h (heldAtEnd image track g os (suc n) first script)
     × (matches h (plain .registers .context) (a / pageSize) ≡ true)
     × (outcome plain a ≡ found (h .entry) → ⊥))
-L3-fetches-too image track root acc os a b c divides =
+L3-fetches-too image track g acc os a b c divides =
     let o : Operation = record { kind = Fetch; a = a; b = b; c = c } in
-    stale-exactly-when image track root acc os o (unfold among in refl) (unfold accessSize among in refl) (unfold accessSize among in divides)
+    stale-exactly-when image track g acc os o (unfold among in refl) (unfold accessSize among in refl) (unfold accessSize among in divides)
 
 -- ── L5: domains ──
 -- "A TLB never remembers the register, so changing it makes nothing stale": after every list from an accepted start `domain`, with any fields and refused or not, leaves the whole
 -- track, and every page in every context as stale or trusted as it was.
 abbrev pub staleIn : After → ℕ → ℕ → Bool
-staleIn x context page = stale (x .track) context page (outcome (stateAfter x) (page * pageSize))
+staleIn x context page = stale oldWindow (x .track) context page (outcome (stateAfter x) (page * pageSize))
 
-pub L5-the-register-is-not-remembered : (image track : List ℕ) (root : ℕ) → Accepted image track root → (os : List Operation) (a b c : ℕ) →
-    let end = myEnd image track root os in
+pub L5-the-register-is-not-remembered : (image track : List ℕ) (g : Setting) → Accepted image track g → (os : List Operation) (a b c : ℕ) →
+    let end = myEnd image track g os in
     let after = stepped (record { kind = Domain; a = a; b = b; c = c }) (end .registers) (end .memory) (end .track) in
     (after .track ≡ end .track) × ((context page : ℕ) → staleIn after context page ≡ staleIn end context page)
-L5-the-register-is-not-remembered image track root acc os a b c =
-    (register-forgotten .track (given image track root os) acc a b c, register-forgotten .stale (given image track root os) acc a b c)
+L5-the-register-is-not-remembered image track g acc os a b c =
+    (register-forgotten .track (given image track g os) acc a b c, register-forgotten .stale (given image track g os) acc a b c)
 
 -- What a chip moves, flushes and translates by is the same whatever the register says.
 pub L5-no-chip-goes-by-the-register : (s : State) (d : ℕ) →
@@ -499,8 +512,8 @@ L5-no-chip-goes-by-the-register s d =
 pub L5-another-domain-alone : (m : List ℕ) (a w d : ℕ) (e : Entry) → d < 16 → tableWord m a w ≡ found e → tableWord m a (redomained d w) ≡ found (withDomain e d)
 L5-another-domain-alone = domain-remembered .alone
 
-pub L5-another-domain-is-stale : (m t : List ℕ) (a w d : ℕ) (e : Entry) (u : Scope) (context : ℕ) → d < 16 → (d ≡ domainOf w → ⊥) → tableWord m a w ≡ found e →
-    covers u context ≡ true → kept u (trackWord t u (a / pageSize)) ≡ one e → stale t context (a / pageSize) (tableWord m a (redomained d w)) ≡ true
+pub L5-another-domain-is-stale : (m t : List ℕ) (window a w d : ℕ) (e : Entry) (u : Scope) (context : ℕ) → d < 16 → (d ≡ domainOf w → ⊥) → tableWord m a w ≡ found e →
+    covers u context ≡ true → kept u (trackWord window t u (a / pageSize)) ≡ one e → stale window t context (a / pageSize) (tableWord m a (redomained d w)) ≡ true
 L5-another-domain-is-stale = domain-remembered .stale
 
 -- ── L6: a permission table ──
@@ -580,23 +593,23 @@ L8-root-changes-under-context-0 o r m t = root-changes .kept (call o r m t)
 
 -- ── L9: quicker long lists ──
 -- "In a run from a fresh start, a store that touches no descriptor byte used by any present walk changes no track word."
-pub L9-untouched-stores-change-no-track-word : (image track : List ℕ) (root : ℕ) → Accepted image track root → (os : List Operation) (o : Operation) (e : Entry) →
-    let end = myEnd image track root os in
+pub L9-untouched-stores-change-no-track-word : (image track : List ℕ) (g : Setting) → Accepted image track g → (os : List Operation) (o : Operation) (e : Entry) →
+    let end = myEnd image track g os in
     o .kind ≡ Write → walk (end .memory) (end .registers .root) (o .a) ≡ found e →
-    Untouched (end .memory) (end .registers .root) (physical e (o .a)) (o .b) →
+    Untouched oldWindow (end .memory) (end .registers .root) (physical e (o .a)) (o .b) →
     stepped o (end .registers) (end .memory) (end .track) .track ≡ end .track
-L9-untouched-stores-change-no-track-word image track root acc os = same-runs .untouched (given image track root os) acc
+L9-untouched-stores-change-no-track-word image track g acc os = same-runs .untouched (given image track g os) acc
 
 -- Neither does an operation that leaves memory, root and context as they were and flushes nothing.
-pub L9-what-changes-nothing-changes-no-track-word : (image track : List ℕ) (root : ℕ) → Accepted image track root → (os : List Operation) (o : Operation) →
-    let end = myEnd image track root os in
+pub L9-what-changes-nothing-changes-no-track-word : (image track : List ℕ) (g : Setting) → Accepted image track g → (os : List Operation) (o : Operation) →
+    let end = myEnd image track g os in
     let after = stepped o (end .registers) (end .memory) (end .track) in
     after .memory ≡ end .memory → after .registers .root ≡ end .registers .root → after .registers .context ≡ end .registers .context →
     ((u : Scope) (page : ℕ) → flushes (o .kind) o u page ≡ false) → after .track ≡ end .track
-L9-what-changes-nothing-changes-no-track-word image track root acc os = same-runs .leaves (given image track root os) acc
+L9-what-changes-nothing-changes-no-track-word image track g acc os = same-runs .leaves (given image track g os) acc
 
 -- The bytes "used by any present walk" are those in memory that the walk of some address of the window reads; and a walk reads no others.
-pub L9-used-by-a-present-walk : (m : List ℕ) (root b : ℕ) → Used m root b ↔ ((a : ℕ) × (a < addressLimit) × Reads m root a b × (b < length m))
+pub L9-used-by-a-present-walk : (w : ℕ) (m : List ℕ) (root b : ℕ) → Used w m root b ↔ ((a : ℕ) × (a < addressLimit w) × Reads m root a b × (b < length m))
 L9-used-by-a-present-walk = used-by-walks .exactly
 
 pub L9-a-walk-reads-no-others : (m k : List ℕ) (root a : ℕ) → length k ≡ length m → ((b : ℕ) → Reads m root a b → b < length m → getD k b 0 ≡ getD m b 0) →
@@ -604,26 +617,28 @@ pub L9-a-walk-reads-no-others : (m k : List ℕ) (root a : ℕ) → length k ≡
 L9-a-walk-reads-no-others = used-by-walks .nothingElse
 
 -- The test by which a list's run tells such stores says it exactly; and after one the walk of every address of the window finds what it found before.
-pub L9-quiet-exactly : (m : List ℕ) (root at n : ℕ) → 0 < n → at + n ≤ length m → (quiet m root at n ≡ true) ↔ Untouched m root at n
+pub L9-quiet-exactly : (w : ℕ) (m : List ℕ) (tables : Tables) (at n : ℕ) → 0 < w → 0 < n → at + n ≤ length m →
+    (quiet w m tables at n ≡ true) ↔ Untouched w m (tables .root) at n
 L9-quiet-exactly = quiet-stores .exactly
 
-pub L9-quiet-stores-leave-walks : (m : List ℕ) (root at n v a : ℕ) → at + n ≤ length m → quiet m root at n ≡ true → a < addressLimit → walk (stored m at n v) root a ≡ walk m root a
+pub L9-quiet-stores-leave-walks : (w : ℕ) (m : List ℕ) (tables : Tables) (at n v a : ℕ) → at + n ≤ length m → quiet w m tables at n ≡ true → a < addressLimit w →
+    walk (stored m at n v) (tables .root) a ≡ walk m (tables .root) a
 L9-quiet-stores-leave-walks = quiet-stores .walks
 
 -- "Answers and track stay those of the full noting": after every list from an accepted start to note the track again changes no word, and the run by the quicker step is the
 -- same, operation by operation.
-pub L9-noted-after-every-list : (image track : List ℕ) (root : ℕ) → Accepted image track root → (os : List Operation) →
-    let end = myEnd image track root os in
-    noteTrack (end .memory) (end .registers .root) (end .registers .context) (end .track) ≡ end .track
-L9-noted-after-every-list image track root acc os = same-runs .noted (given image track root os) acc
+pub L9-noted-after-every-list : (image track : List ℕ) (g : Setting) → Accepted image track g → (os : List Operation) →
+    let end = myEnd image track g os in
+    noteTrack oldWindow (end .memory) (record { root = end .registers .root }) (end .registers .context) (end .track) ≡ end .track
+L9-noted-after-every-list image track g acc os = same-runs .noted (given image track g os) acc
 
-pub L9-the-same-step : (image track : List ℕ) (root : ℕ) → Accepted image track root → (os : List Operation) (o : Operation) →
-    let end = myEnd image track root os in runStepped o (end .registers) (end .memory) (end .track) ≡ stepped o (end .registers) (end .memory) (end .track)
-L9-the-same-step image track root acc os = same-runs .step (given image track root os) acc
+pub L9-the-same-step : (image track : List ℕ) (g : Setting) → Accepted image track g → (os : List Operation) (o : Operation) →
+    let end = myEnd image track g os in runStepped o (end .registers) (end .memory) (end .track) ≡ stepped o (end .registers) (end .memory) (end .track)
+L9-the-same-step image track g acc os = same-runs .step (given image track g os) acc
 
-pub L9-the-same-runs : (image track : List ℕ) (root : ℕ) → Accepted image track root → (os : List Operation) →
-    checkerRun (record { start = started; step = runStepped }) (started image track root) os ≡ myRun image track root os
-L9-the-same-runs image track root acc os = same-runs .run (given image track root os) acc
+pub L9-the-same-runs : (image track : List ℕ) (g : Setting) → Accepted image track g → (os : List Operation) →
+    checkerRun (record { start = started; step = runStepped }) (started image track g) os ≡ myRun image track g os
+L9-the-same-runs image track g acc os = same-runs .run (given image track g os) acc
 
 -- On any lent state the two steps have the same answer, registers and memory; the track is fully noted by `stepped`, "which a single operation on a lent track still does".
 pub L9-alike-on-any-lent-state : (o : Operation) (r : Registers) (m t : List ℕ) →
@@ -633,10 +648,10 @@ L9-alike-on-any-lent-state o r m t = let x = same-runs .alike o r m t in (x .ans
 -- ── Where a list may be cut ──
 -- Directly behind an `all` that is carried out while the registers are those of a start. What follows it in the whole run is, operation by operation, what it is in a run of its own, which a start with that root begins
 -- from the memory as it is there, whatever the track holds that it is lent.
-pub a-list-may-be-cut-behind-all : (image track : List ℕ) (root : ℕ) (os : List Operation) (o : Operation) (ps : List Operation) (again : ℕ) (lent : List ℕ) →
-    let end = myEnd image track root os in
+pub a-list-may-be-cut-behind-all : (image track : List ℕ) (g : Setting) (os : List Operation) (o : Operation) (ps : List Operation) (again : Setting) (lent : List ℕ) →
+    let end = myEnd image track g os in
     let second = started (end .memory) lent again in
-    o .kind ≡ All → end .registers ≡ (record { root = again; context = 0; mode = 0; domains = 0x55555555 }) →
+    o .kind ≡ All → end .registers ≡ (record { root = again .root; context = 0; mode = 0; domains = 0x55555555 }) →
     isRefused (shown (stepped o (end .registers) (end .memory) (end .track) .answer)) ≡ false → length lent ≡ length track →
-    myRun image track root (os ++ (o ∷ ps)) ≡ myRun image track root os ++ (second ∷ checkerRun mine second ps)
-a-list-may-be-cut-behind-all image track root os = cuts .parts (given image track root os)
+    myRun image track g (os ++ (o ∷ ps)) ≡ myRun image track g os ++ (second ∷ checkerRun mine second ps)
+a-list-may-be-cut-behind-all image track g os = cuts .parts (given image track g os)

@@ -5,6 +5,7 @@ use mathlib.Core.Path.{_≡_, refl}
 use mathlib.Core.Bool.{true}
 use mathlib.Core.List.{List, [], _∷_}
 use lib.ListN.{getD, replicate}
+use Rattle.model.specs.reference.Rules.{rooted}
 use Rattle.model.specs.step.WalkAnswer.{walkAnswer}
 use Rattle.model.proofs.CaseTools.{allMatch, put, zeros, imageA, next}
 use Rattle.ffi.specs.Words.{kindFrom, operationFrom, registersFrom, registersInto, areWords, Called, stepCall, startCall}
@@ -29,9 +30,9 @@ callCases =
     let kernel : List ℕ = 0 ∷ 0 ∷ 0 ∷ 0x55555555 ∷ [] in
     let closed : List ℕ = 0 ∷ 0 ∷ 0 ∷ 0x55555554 ∷ [] in
     let other : List ℕ = 0 ∷ 1 ∷ 0 ∷ 0x55555555 ∷ [] in
-    let started = startCall zeros track 0x80 (9 ∷ 9 ∷ 9 ∷ 9 ∷ []) in
-    let refused = startCall zeros track 0x81 (9 ∷ 9 ∷ 9 ∷ 9 ∷ []) in
-    let rooted = called 2 0x100 0 0 kernel in
+    let started = startCall zeros track (rooted 0x80) (9 ∷ 9 ∷ 9 ∷ 9 ∷ []) in
+    let refused = startCall zeros track (rooted 0x81) (9 ∷ 9 ∷ 9 ∷ 9 ∷ []) in
+    let newRoot = called 2 0x100 0 0 kernel in
     let switched = called 3 1 0 0 kernel in
     let user = called 4 1 0 0 kernel in
     let opened = called 10 0x3 0 0 kernel in
@@ -48,21 +49,21 @@ callCases =
     ∷ (register 2 refused, 0)
     ∷ (register 3 refused, 0)
     -- three words are no registers, and neither are five
-    ∷ (startCall zeros track 0 (0 ∷ 0 ∷ 0 ∷ []) .number, 0x300000000)
-    ∷ (startCall zeros track 0 (0 ∷ 0 ∷ 0 ∷ 0 ∷ 0 ∷ []) .number, 0x300000000)
+    ∷ (startCall zeros track (rooted 0) (0 ∷ 0 ∷ 0 ∷ []) .number, 0x300000000)
+    ∷ (startCall zeros track (rooted 0) (0 ∷ 0 ∷ 0 ∷ 0 ∷ 0 ∷ []) .number, 0x300000000)
     ∷ (called 0 0x1000 4 0 (0 ∷ 0 ∷ 0 ∷ []) .number, 0x300000000)
     -- root, context, mode and domains are the first, the second, the third and the fourth register
-    ∷ (register 0 rooted, 0x100)
+    ∷ (register 0 newRoot, 0x100)
     ∷ (register 1 switched, 1)
     ∷ (register 2 user, 1)
     ∷ (register 3 opened, 3)
-    ∷ (register 3 rooted, 0x55555555)
+    ∷ (register 3 newRoot, 0x55555555)
     ∷ (called 8 0 0 0 (0 ∷ 0 ∷ 1 ∷ 0 ∷ []) .number, 0x20000000F)
     ∷ (called 0 0 4 0 (0 ∷ 2 ∷ 0 ∷ 0 ∷ []) .number, 0x20000000E)
     ∷ (called 0 0 4 0 (0 ∷ 0 ∷ 0 ∷ 2 ∷ []) .number, 0x20000000E)
     -- two rows are one context, and one row is no track: 13
-    ∷ (startCall zeros (replicate 2048 0) 0x80 kernel .number, 0)
-    ∷ (startCall zeros (replicate 1024 0) 0x80 kernel .number, 0x20000000D)
+    ∷ (startCall zeros (replicate 2048 0) (rooted 0x80) kernel .number, 0)
+    ∷ (startCall zeros (replicate 1024 0) (rooted 0x80) kernel .number, 0x20000000D)
     -- a read: the address is the second word, the size the third; its value, and fault 7
     ∷ (called 0 0x1000 4 0 kernel .number, 0x12345678)
     ∷ (called 0 0x1002 2 0 kernel .number, 0x1234)

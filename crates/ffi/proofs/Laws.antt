@@ -8,6 +8,7 @@ use lib.ListN.{length, getD}
 use borrow.Author.Tests.{eqb-true, eq-eqb, ne-eqb}
 use Rattle.model.proofs.BoolLaws.{allBelow, at-each}
 use Rattle.model.specs.Numbers.{kindNumber}
+use Rattle.model.specs.declared.Setting.{Setting}
 use Rattle.model.specs.declared.Kind.{Kind}
 use Rattle.model.specs.declared.Kind.the-variants.{Read, Write, Root, Asid, Mode, All, Addr, Ctx, AddrCtx, Fetch, Domain}
 use Rattle.model.specs.declared.Operation.{Operation}
@@ -45,13 +46,13 @@ module _ (o r m t : List ℕ) where
       go true false e p = absurd (true≢false (sym p))
       go false b e p = absurd (true≢false (sym p))
 
-module _ (m t : List ℕ) (root : ℕ) (r : List ℕ) where
-  pub start-left : (y : Returned) (x : ℕ) (r′ t′ : List ℕ) → length r ≡ 4 → Gives (started m t root) y m t′ → r′ ≡ registersInto r (y .registers) → x ≡ answerNumber (y .answer) →
-      Left (startCall m t root r) x r′ m t′
+module _ (m t : List ℕ) (g : Setting) (r : List ℕ) where
+  pub start-left : (y : Returned) (x : ℕ) (r′ t′ : List ℕ) → length r ≡ 4 → Gives (started m t g) y m t′ → r′ ≡ registersInto r (y .registers) → x ≡ answerNumber (y .answer) →
+      Left (startCall m t g r) x r′ m t′
   unfolding startCall
-  start-left y x r′ t′ e h i j = rw (eq-eqb (length r) 4 e) (left-called (started m t root) y x r r′ m t′ h i j)
+  start-left y x r′ t′ e h i j = rw (eq-eqb (length r) 4 e) (left-called (started m t g) y x r r′ m t′ h i j)
 
-  pub start-not : (length r ≡ 4 → ⊥) → Left (startCall m t root r) 0x300000000 r m t
+  pub start-not : (length r ≡ 4 → ⊥) → Left (startCall m t g r) 0x300000000 r m t
   unfolding startCall
   start-not n = rw (ne-eqb (length r) 4 n) (record { number = refl; registers = refl; memory = refl; track = refl })
 

@@ -7,6 +7,7 @@ use lib.Dec.{eqb, ltb}
 use lib.ListN.{length, getD, set}
 use Rattle.model.specs.Numbers.{kindNumber, Result, ok, fault, refused, shown}
 use Rattle.model.specs.step.Machine.{After, stepped, started}
+use Rattle.model.specs.declared.Setting.{Setting}
 use Rattle.model.specs.declared.Answer.{Answer}
 use Rattle.model.specs.declared.Kind.{Kind}
 use Rattle.model.specs.declared.Kind.the-variants.{Read, Write, Root, Asid, Mode, All, Addr, Ctx, AddrCtx, Fetch, Domain}
@@ -80,5 +81,5 @@ areWords o r = cond (eqb (length o) 4) (cond (eqb (length r) 4) (ltb (getD o 0 0
 unfoldable pub stepCall : List ℕ → List ℕ → List ℕ → List ℕ → Called
 stepCall o r m t = cond (areWords o r) (called (stepped (operationFrom o) (registersFrom r) m t) r) (notCalled r m t)
 
-unfoldable pub startCall : List ℕ → List ℕ → ℕ → List ℕ → Called
-startCall m t root r = cond (eqb (length r) 4) (called (started m t root) r) (notCalled r m t)
+unfoldable pub startCall : List ℕ → List ℕ → Setting → List ℕ → Called
+startCall m t g r = cond (eqb (length r) 4) (called (started m t g) r) (notCalled r m t)

@@ -1,11 +1,13 @@
 // Start and one step as C functions over words and bytes, so that Rust can hand the machine any state.
 ghost use mathlib.Core.Path.{_≡_};
 ghost use lib.ListN.{length, getD};
+ghost use Rattle.model.specs.reference.Rules.{rooted};
 ghost use Rattle.ffi.specs.Words.{kindFrom, operationFrom, registersFrom, registersInto, answerNumber, areWords, Left, stepCall, startCall};
 use model::Answer;
 use model::Kind;
 use model::Operation;
 use model::Registers;
+use model::Setting;
 
 // The kind with this number.
 fn kind_from(k: u32) -> Kind
@@ -134,10 +136,10 @@ pub extern "C" fn machine_step(o: &[u32], r: &mut [u32], m: &mut [u8], t: &mut [
 // A start; `r` holds the registers returned afterwards.
 #[no_mangle]
 pub extern "C" fn machine_start(m: &[u8], t: &mut [u32], root: u32, r: &mut [u32]) -> u64
-    ensures { λ x. ⌜ Left (startCall (now (m .entry)) (now (t .entry)) root (now (r .entry))) x (now (r .exit)) (now (m .entry)) (now (t .exit)) ⌝ }
+    ensures { λ x. ⌜ Left (startCall (now (m .entry)) (now (t .entry)) (rooted root) (now (r .entry))) x (now (r .exit)) (now (m .entry)) (now (t .exit)) ⌝ }
 {
     if r.len() == 4 {
-        let begun = machine::start(m, t, root);
+        let begun = machine::start(m, t, Setting { root });
         let left = begun.registers;
         registers_into(r, left);
         let told = begun.answer;

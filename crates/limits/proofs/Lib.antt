@@ -1,2 +1,3 @@
--- Laws of values.
+-- Laws of values, and of rows of any size.
 pub mod Laws
+pub mod Sizes

@@ -1,7 +1,11 @@
 // What lengths, registers, sizes and values can be.
 ghost use mathlib.Core.Path.{_≡_};
-ghost use Rattle.model.specs.step.Checks.{memoryFits, trackFits, lengthsFit, rootFits, domainsFit, registersFit, isSize, fitsSize};
-ghost use Rattle.model.specs.step.Track.{lastRow};
+ghost use Prim.Native.Nat.{_*_, _<_, _≤_};
+ghost use Rattle.model.specs.Limits.{rowSize};
+ghost use Rattle.model.specs.step.Checks.{memoryFits, trackFits, lengthsFit, alignmentOf, rootFits, inWindow, domainsFit, registersFit, isSize, fitsSize};
+ghost use Rattle.model.specs.step.Rows.{rowStart};
+ghost use Rattle.model.specs.step.Track.{rowsOf, lastRow};
+use model::OLD_SPLIT;
 use model::Registers;
 
 // Whether n bytes can be a memory.
@@ -18,21 +22,71 @@ pub fn memory_fits(n: usize) -> bool
     false
 }
 
-// Whether a root has its alignment.
-pub fn root_fits(root: u32) -> bool
-    ensures { λ r. ⌜ r ≡ rootFits root ⌝ }
+// A root is a multiple of this.
+fn root_alignment(n: u32) -> u32
+    ensures { λ r. ⌜ (r ≡ alignmentOf n) × (0 < r) ⌝ }
 {
-    root % 128 == 0 // rootAlignment
+    if n < 15 {
+        return 16384 >> n;
+    }
+    1
+}
+
+// Whether a root has its alignment.
+pub fn root_fits(n: u32, root: u32) -> bool
+    ensures { λ r. ⌜ r ≡ rootFits n root ⌝ }
+{
+    let unit = root_alignment(n);
+    root % unit == 0
+}
+
+// Whether an address lies in a window of so many MiB.
+pub fn in_window(window: u32, a: u32) -> bool
+    ensures { λ r. ⌜ r ≡ inWindow window a ⌝ }
+{
+    a / 1048576 < window // sectionSize
+}
+
+// How many words a row has with such a window.
+pub fn row_size(window: u32) -> usize
+    ensures { λ r. ⌜ (r ≡ rowSize window) × (r < 1099511627776) ⌝ }
+{
+    256 * window as usize
+}
+
+// How many rows n words have.
+pub fn rows(window: u32, n: usize) -> usize
+    ensures { λ r. ⌜ (r ≡ rowsOf window n) × (r * rowSize window ≤ n) ⌝ }
+{
+    let size = row_size(window);
+    if size == 0 {
+        return 0;
+    }
+    n / size
+}
+
+// Where a row starts in n words, or n where it starts past them.
+pub fn row_start(window: u32, row: usize, n: usize) -> usize
+    ensures { λ r. ⌜ (r ≡ rowStart (rowSize window) row n) × (r ≤ n) ⌝ }
+{
+    let size = row_size(window);
+    if size == 0 {
+        return 0;
+    }
+    if n / size < row {
+        return n;
+    }
+    row * size
 }
 
 // Whether n words can be a track.
-pub fn track_fits(n: usize) -> bool
-    ensures { λ r. ⌜ r ≡ trackFits n ⌝ }
+pub fn track_fits(window: u32, n: usize) -> bool
+    ensures { λ r. ⌜ r ≡ trackFits window n ⌝ }
 {
-    let rest = n % 1024; // rowSize
-    if rest == 0 {
-        if 2048 <= n { // 2 * rowSize
-            return n <= 263168; // (contextsMost + 1) * rowSize
+    let k = rows(window, n);
+    if row_start(window, k, n) == n {
+        if 2 <= k {
+            return k <= 257; // contextsMost + 1
         }
         return false;
     }
@@ -40,22 +94,22 @@ pub fn track_fits(n: usize) -> bool
 }
 
 // The number of the last row of n words: the global row of a track, and how many contexts it has.
-pub fn last_row(n: usize) -> usize
-    ensures { λ r. ⌜ r ≡ lastRow n ⌝ }
+pub fn last_row(window: u32, n: usize) -> usize
+    ensures { λ r. ⌜ r ≡ lastRow window n ⌝ }
 {
-    let rows = n / 1024; // rowSize
-    if rows == 0 {
+    let count = rows(window, n);
+    if count == 0 {
         return 0;
     }
-    rows - 1
+    count - 1
 }
 
 // Whether m bytes can be a memory, and t words a track.
-pub fn lengths_fit(m: usize, t: usize) -> bool
-    ensures { λ r. ⌜ r ≡ lengthsFit m t ⌝ }
+pub fn lengths_fit(window: u32, m: usize, t: usize) -> bool
+    ensures { λ r. ⌜ r ≡ lengthsFit window m t ⌝ }
 {
     if memory_fits(m) {
-        return track_fits(t);
+        return track_fits(window, t);
     }
     false
 }
@@ -88,7 +142,7 @@ pub fn registers_fit(r: Registers, k: usize) -> bool
     ensures { λ x. ⌜ x ≡ registersFit r k ⌝ }
 {
     let context = r.context as usize;
-    if root_fits(r.root) {
+    if root_fits(OLD_SPLIT, r.root) {
         if context < k {
             if r.mode <= 1 {
                 return domains_fit(r.domains);

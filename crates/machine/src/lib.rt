@@ -5,9 +5,11 @@ use access::size_of;
 use model::Answer;
 use model::Check;
 use model::Kind;
+use model::OLD_WINDOW;
 use model::Operation;
 use model::Registers;
 use model::Returned;
+use model::Setting;
 use transfer::carry;
 use transfer::carry_flushed;
 use transfer::fetch;
@@ -70,19 +72,19 @@ pub fn carry_out(kind: Kind, o: Operation, r: Registers, m: &mut [u8], t: &mut [
         Kind::Asid => carry(Answer::Done(0), with_context(r, o.a), m, t),
         Kind::Mode => carry(Answer::Done(0), with_mode(r, o.a), m, t),
         Kind::All => {
-            track::flush_all(t);
+            track::flush_all(OLD_WINDOW, t);
             carry_flushed(Answer::Done(0), r, m, t)
         }
         Kind::Addr => {
-            track::flush_page(t, o.a as usize / 4096); // pageSize
+            track::flush_page(OLD_WINDOW, t, o.a as usize / 4096); // pageSize
             carry_flushed(Answer::Done(0), r, m, t)
         }
         Kind::Ctx => {
-            track::flush_context(t, o.a as usize);
+            track::flush_context(OLD_WINDOW, t, o.a as usize);
             carry(Answer::Done(0), r, m, t)
         }
         Kind::AddrCtx => {
-            track::flush_page_in(t, o.b as usize, o.a as usize / 4096); // pageSize
+            track::flush_page_in(OLD_WINDOW, t, o.b as usize, o.a as usize / 4096); // pageSize
             carry_flushed(Answer::Done(0), r, m, t)
         }
         Kind::Fetch => fetch(o.a, r, m, t),
@@ -107,10 +109,10 @@ pub fn step(o: Operation, r: Registers, m: &mut [u8], t: &mut [u32]) -> Returned
 }
 
 // A start: context 0, kernel mode, each field of the domain register 1, the track emptied and noted.
-pub fn start(m: &[u8], t: &mut [u32], root: u32) -> Returned
-    ensures { λ y. ⌜ Gives (started (now (m .entry)) (now (t .entry)) root) y (now (m .entry)) (now (t .exit)) ⌝ }
+pub fn start(m: &[u8], t: &mut [u32], setting: Setting) -> Returned
+    ensures { λ y. ⌜ Gives (started (now (m .entry)) (now (t .entry)) setting) y (now (m .entry)) (now (t .exit)) ⌝ }
 {
-    match checks::check_start(m.len(), t.len(), root) {
+    match checks::check_start(m.len(), t.len(), setting) {
         Check::Refuse(n) => Returned {
             answer: Answer::Refused(n),
             registers: Registers {
@@ -121,11 +123,11 @@ pub fn start(m: &[u8], t: &mut [u32], root: u32) -> Returned
             },
         },
         Check::Pass => {
-            track::flush_all(t);
+            track::flush_all(OLD_WINDOW, t);
             carry_flushed(
                 Answer::Done(0),
                 Registers {
-                    root: root,
+                    root: setting.root,
                     context: 0,
                     mode: 0,
                     domains: 1431655765, // 0x55555555

@@ -1,5 +1,5 @@
 -- The first demand, and what the second asks of a single call: proved of the step.
-use Prim.Native.Nat.{ℕ, suc, _+_, _*_, _-_, _/_, _%_, _≤_, _<_}
+use Prim.Native.Nat.{ℕ, suc, _+_, _*_, _-_, _/_, _≤_, _<_}
 use mathlib.Core.Path.{_≡_, refl, sym, ap, ap₂, _∙_}
 use mathlib.Core.Logic.{_↔_, _⊎_, inl, inr}
 use mathlib.Core.Bool.{Bool, true, false, cond, not, _&&_, _||_, or-true, true≢false}
@@ -9,15 +9,15 @@ use native.Mathlib.Omega.{arith}
 use lib.Dec.{eqb, leb, ltb}
 use lib.ListN.{length}
 use borrow.Author.Tests.{eqb-true, ltb-true, leb-true}
-use Rattle.model.specs.Limits.{rowSize, contextsMost}
+use Rattle.model.specs.Limits.{oldSplit, oldWindow, rowSize, contextsMost}
 use Rattle.model.specs.Numbers.{Result, ok, fault, refused, shown, refusalNumber}
 use Rattle.model.specs.reference.Rules.{Translation, found, failed, inMemory, physical, State, fresh, aligned, accessSize, touched, ruled, translated, access, setRegisters, effect, outcome, carriedOut, Scope, own, global, flushes, trackWord, notedIn, wordAfter, contexts, hasRow, conditions, startConditions, Given, wrongMemory, refuses13, refuses16}
 use Rattle.model.specs.reference.Runs.{isRefused}
-use Rattle.model.specs.step.Track.{lastRow, noteTrack, flushAll}
+use Rattle.model.specs.step.Track.{rowsOf, lastRow, noteTrack, flushAll}
 use Rattle.model.specs.step.Checks.{checks, startChecks, firstFailing, contextFits, domainsFit, registersFit, sizeFits, rootFits, lengthsFit, memoryFits, trackFits}
-use Rattle.model.specs.step.Machine.{After, sizeOf, accessAt, readFrom, writeTo, readStep, writeStep, fetchStep, afterChecks, startedBy, operate, stepped, started, startRegisters, zeroRegisters, turnedBack}
+use Rattle.model.specs.step.Machine.{After, tablesOf, sizeOf, accessAt, readFrom, writeTo, readStep, writeStep, fetchStep, afterChecks, startedBy, operate, stepped, started, startRegisters, zeroRegisters, turnedBack}
 use Rattle.model.specs.Demands.{Call, conditionsOf, after, before, visible, Leaves, Total, Faithful}
-use Rattle.model.specs.Types.{Registers, Operation, Kind, Read, Write, Root, Asid, Mode, All, Addr, Ctx, AddrCtx, Fetch, Domain, Entry, Refusal, StalePage, Size, Four, Purpose, ToRead, ToWrite, ToFetch, Ruling, Allowed, PermissionDenied, DomainDenied, Check, Pass, Refuse, Access, Stale, Fails, Physical}
+use Rattle.model.specs.Types.{Registers, Setting, Operation, Kind, Read, Write, Root, Asid, Mode, All, Addr, Ctx, AddrCtx, Fetch, Domain, Entry, Refusal, StalePage, Size, Four, Purpose, ToRead, ToWrite, ToFetch, Ruling, Allowed, PermissionDenied, DomainDenied, Check, Pass, Refuse, Access, Stale, Fails, Physical}
 use Rattle.model.proofs.BoolLaws.{push, and-both}
 use Rattle.model.proofs.Checks.{asConditions, staleCondition, checks-same, start-checks-same}
 use Rattle.model.proofs.Track.{flushOf, noted-word, noted-length, flushed-word, flushed-length, word-after}
@@ -197,7 +197,7 @@ plain x h =
 -- turned back with all as given, or carried out with what was flushed noted
 pub data Ended (y : After) (r : Registers) (m t flushed : List ℕ) : Type 0 where
   back : (n : Refusal) → y ≡ turnedBack n r m t → Ended y r m t flushed
-  done : isRefused (shown (y .answer)) ≡ false → y .track ≡ noteTrack (y .memory) (y .registers .root) (y .registers .context) flushed → Ended y r m t flushed
+  done : isRefused (shown (y .answer)) ≡ false → y .track ≡ noteTrack oldWindow (y .memory) (tablesOf (y .registers)) (y .registers .context) flushed → Ended y r m t flushed
 
 read-ended : (x : Access) (size : Size) (r : Registers) (m t : List ℕ) → Ended (readFrom x size r m t) r m t t
 read-ended Stale size r m t = back StalePage refl
@@ -209,7 +209,7 @@ write-ended Stale size v r m t = back StalePage refl
 write-ended (Fails f) size v r m t = done (unfold isRefused in refl) refl
 write-ended (Physical p) size v r m t = done (unfold isRefused in refl) refl
 
-operate-ended : (k : Kind) (o : Operation) (r : Registers) (m t : List ℕ) → Ended (operate k o r m t) r m t (flushOf k o t)
+operate-ended : (k : Kind) (o : Operation) (r : Registers) (m t : List ℕ) → Ended (operate k o r m t) r m t (flushOf oldWindow k o t)
 unfolding operate flushOf readStep writeStep fetchStep isRefused
 operate-ended Read o r m t = read-ended (accessAt r m t ToRead (sizeOf (o .b)) (o .a)) (sizeOf (o .b)) r m t
 operate-ended Write o r m t = write-ended (accessAt r m t ToWrite (sizeOf (o .b)) (o .a)) (sizeOf (o .b)) (o .c) r m t
@@ -225,7 +225,7 @@ operate-ended Domain o r m t = done refl refl
 
 -- the flush of a call
 abbrev flushedBy : Call → List ℕ
-flushedBy x = flushOf (x .operation .kind) (x .operation) (x .track)
+flushedBy x = flushOf oldWindow (x .operation .kind) (x .operation) (x .track)
 
 ended : (x : Call) → Ended (after x) (x .registers) (x .memory) (x .track) (flushedBy x)
 unfolding stepped
@@ -260,30 +260,30 @@ write-context Stale size v r m t = refl
 write-context (Fails f) size v r m t = refl
 write-context (Physical p) size v r m t = refl
 
-context-left : (k : Kind) (o : Operation) (r : Registers) (m t : List ℕ) → r .context < contexts t → contextFits k (o .a) (o .b) (contexts t) ≡ true →
-    operate k o r m t .registers .context < contexts t
+context-left : (w : ℕ) (k : Kind) (o : Operation) (r : Registers) (m t : List ℕ) → r .context < contexts w t → contextFits k (o .a) (o .b) (contexts w t) ≡ true →
+    operate k o r m t .registers .context < contexts w t
 unfolding operate contextFits readStep writeStep fetchStep
-context-left Read o r m t h f = rw (read-context (accessAt r m t ToRead (sizeOf (o .b)) (o .a)) (sizeOf (o .b)) r m t) h
-context-left Write o r m t h f = rw (write-context (accessAt r m t ToWrite (sizeOf (o .b)) (o .a)) (sizeOf (o .b)) (o .c) r m t) h
-context-left Root o r m t h f = h
-context-left Asid o r m t h f = ltb-true (o .a) (contexts t) f
-context-left Mode o r m t h f = h
-context-left All o r m t h f = h
-context-left Addr o r m t h f = h
-context-left Ctx o r m t h f = h
-context-left AddrCtx o r m t h f = h
-context-left Fetch o r m t h f = rw (read-context (accessAt r m t ToFetch Four (o .a)) Four r m t) h
-context-left Domain o r m t h f = h
+context-left w Read o r m t h f = rw (read-context (accessAt r m t ToRead (sizeOf (o .b)) (o .a)) (sizeOf (o .b)) r m t) h
+context-left w Write o r m t h f = rw (write-context (accessAt r m t ToWrite (sizeOf (o .b)) (o .a)) (sizeOf (o .b)) (o .c) r m t) h
+context-left w Root o r m t h f = h
+context-left w Asid o r m t h f = ltb-true (o .a) (contexts w t) f
+context-left w Mode o r m t h f = h
+context-left w All o r m t h f = h
+context-left w Addr o r m t h f = h
+context-left w Ctx o r m t h f = h
+context-left w AddrCtx o r m t h f = h
+context-left w Fetch o r m t h f = rw (read-context (accessAt r m t ToFetch Four (o .a)) Four r m t) h
+context-left w Domain o r m t h f = h
 
 -- what the checks passed say of contexts
 pub record Passed (x : Call) : Type 0 where
-  pub given : x .registers .context < contexts (x .track)
-  pub named : contextFits (x .operation .kind) (x .operation .a) (x .operation .b) (contexts (x .track)) ≡ true
-  pub left : after x .registers .context < contexts (x .track)
+  pub given : x .registers .context < contexts oldWindow (x .track)
+  pub named : contextFits (x .operation .kind) (x .operation .a) (x .operation .b) (contexts oldWindow (x .track)) ≡ true
+  pub left : after x .registers .context < contexts oldWindow (x .track)
 
 context-in-range : (r : Registers) (n : ℕ) → registersFit r n ≡ true → r .context < n
 unfolding registersFit
-context-in-range r n p = go (rootFits (r .root)) (ltb (r .context) n) refl p
+context-in-range r n p = go (rootFits oldSplit (r .root)) (ltb (r .context) n) refl p
   where
     go : (x y : Bool) → ltb (r .context) n ≡ y → cond x (cond y (cond (leb (r .mode) 1) (domainsFit (r .domains)) false) false) false ≡ true → r .context < n
     go true true e q = ltb-true (r .context) n e
@@ -294,12 +294,12 @@ pub passed-call : (x : Call) → firstFailing (checksOf x) ≡ Pass → Passed x
 unfolding Hold checks contexts lastRow stepped
 passed-call x p =
     let all = passed (checksOf x) p in
-    let given : x .registers .context < contexts (x .track) = context-in-range (x .registers) (contexts (x .track)) (all .1 .0) in
-    let named : contextFits (x .operation .kind) (x .operation .a) (x .operation .b) (contexts (x .track)) ≡ true = all .1 .1 .1 .1 .1 .1 .0 in
+    let given : x .registers .context < contexts oldWindow (x .track) = context-in-range (x .registers) (contexts oldWindow (x .track)) (all .1 .0) in
+    let named : contextFits (x .operation .kind) (x .operation .a) (x .operation .b) (contexts oldWindow (x .track)) ≡ true = all .1 .1 .1 .1 .1 .1 .0 in
     record {
       given = given;
       named = named;
-      left = rw p (context-left (x .operation .kind) (x .operation) (x .registers) (x .memory) (x .track) given named);
+      left = rw p (context-left oldWindow (x .operation .kind) (x .operation) (x .registers) (x .memory) (x .track) given named);
     }
 
 -- a call that is not refused has passed the checks
@@ -313,8 +313,8 @@ passes xs ys p = go (firstFailing xs) (sym (first-failing xs ys) ∙ p)
 pub call-passes : (x : Call) → ((r : ℕ) → Given r (conditionsOf x) → ⊥) → Passed x
 call-passes x h = passed-call x (passes (checksOf x) (staleCondition x ∷ []) (ap firstHolding (checks-same x) ∙ none-holds (conditionsOf x) h))
 
-pub words : (x : Call) → ((r : ℕ) → Given r (conditionsOf x) → ⊥) → (u : Scope) (p : ℕ) → hasRow (x .track) u ≡ true → p < rowSize →
-    trackWord (after x .track) u p ≡ wordAfter (x .operation) (carriedOut (x .operation) (before x) .1) u p (trackWord (x .track) u p)
+pub words : (x : Call) → ((r : ℕ) → Given r (conditionsOf x) → ⊥) → (u : Scope) (p : ℕ) → hasRow oldWindow (x .track) u ≡ true → p < rowSize oldWindow →
+    trackWord oldWindow (after x .track) u p ≡ wordAfter (x .operation) (carriedOut (x .operation) (before x) .1) u p (trackWord oldWindow (x .track) u p)
 words x h u p d q = go (ended x)
   where
     o : Operation
@@ -324,13 +324,13 @@ words x h u p d q = go (ended x)
     y = after x
 
     go : Ended (after x) (x .registers) (x .memory) (x .track) (flushedBy x) →
-        trackWord (after x .track) u p ≡ wordAfter (x .operation) (carriedOut (x .operation) (before x) .1) u p (trackWord (x .track) u p)
+        trackWord oldWindow (after x .track) u p ≡ wordAfter (x .operation) (carriedOut (x .operation) (before x) .1) u p (trackWord oldWindow (x .track) u p)
     go (back n e) = absurd (h (refusalNumber n) (exactly x (refusalNumber n) .0 (ap (λ (z : After). shown (z .answer)) e)))
     go (done a e) =
         let ok = call-passes x h in
-        ap (λ l. trackWord l u p) e
-        ∙ word-after (o .kind) o (y .memory) (y .registers) (x .track) refl (ok .named) (ok .left) u p d q
-        ∙ ap (λ (z : Result × State). wordAfter o (z .1) u p (trackWord (x .track) u p)) (plain x h)
+        ap (λ l. trackWord oldWindow l u p) e
+        ∙ word-after oldWindow (o .kind) o (y .memory) (y .registers) (x .track) refl (ok .named) (ok .left) u p d q
+        ∙ ap (λ (z : Result × State). wordAfter o (z .1) u p (trackWord oldWindow (x .track) u p)) (plain x h)
 
 pub track-length : (x : Call) → length (after x .track) ≡ length (x .track)
 track-length x = go (ended x)
@@ -340,133 +340,136 @@ track-length x = go (ended x)
     go (done a e) =
         let h : (r : ℕ) → Given r (conditionsOf x) → ⊥ = λ r g. not-refused (shown (after x .answer)) r a (exactly x r .1 g) in
         let ok = call-passes x h in
-        let same = flushed-length (x .operation .kind) (x .operation) (x .track) (ok .named) in
+        let same = flushed-length oldWindow (x .operation .kind) (x .operation) (x .track) (ok .named) in
         ap length e
-        ∙ noted-length (after x .memory) (after x .registers) (flushedBy x) (unfold contexts in rw same (unfold contexts in ok .left))
+        ∙ noted-length oldWindow (after x .memory) (after x .registers) (flushedBy x) (unfold contexts in rw same (unfold contexts in ok .left))
         ∙ same
 
 -- ── Start ──
 
-abbrev startChecksOf : List ℕ → List ℕ → ℕ → List (Bool × Refusal)
-startChecksOf m t root = startChecks (length m) (length t) root
+abbrev startChecksOf : List ℕ → List ℕ → Setting → List (Bool × Refusal)
+startChecksOf m t g = startChecks (length m) (length t) g
 
-start-conditions-by : (m t : List ℕ) (root : ℕ) → firstHolding (startConditions m t root) ≡ orElse (firstFailing (startChecksOf m t root)) none
+start-conditions-by : (m t : List ℕ) (g : Setting) → firstHolding (startConditions m t g) ≡ orElse (firstFailing (startChecksOf m t g)) none
 unfolding startConditions
-start-conditions-by m t root =
-    ap (λ l. firstHolding (l ++ [])) (sym (start-checks-same m t root))
-    ∙ first-failing (startChecksOf m t root) []
+start-conditions-by m t g =
+    ap (λ l. firstHolding (l ++ [])) (sym (start-checks-same m t g))
+    ∙ first-failing (startChecksOf m t g) []
     ∙ (unfold firstHolding in refl)
 
-unfoldable startedAs : Option ℕ → List ℕ → ℕ → Result × State
-startedAs (some r) m root = (refused r, state zeroRegisters m)
-startedAs none m root = (ok 0, fresh m root)
+unfoldable startedAs : Option ℕ → List ℕ → Setting → Result × State
+startedAs (some r) m g = (refused r, state zeroRegisters m)
+startedAs none m g = (ok 0, fresh m g)
 
-start-same : (m t : List ℕ) (root : ℕ) → visible (started m t root) ≡ startedAs (firstHolding (startConditions m t root)) m root
+start-same : (m t : List ℕ) (g : Setting) → visible (started m t g) ≡ startedAs (firstHolding (startConditions m t g)) m g
 unfolding started
-start-same m t root = go (firstFailing (startChecksOf m t root)) ∙ ap (λ y. startedAs y m root) (sym (start-conditions-by m t root))
+start-same m t g = go (firstFailing (startChecksOf m t g)) ∙ ap (λ y. startedAs y m g) (sym (start-conditions-by m t g))
   where
-    go : (y : Check) → visible (startedBy y m t root) ≡ startedAs (orElse y none) m root
+    go : (y : Check) → visible (startedBy y m t g) ≡ startedAs (orElse y none) m g
     go (Refuse n) = unfold orElse startedAs in refl
     go Pass = unfold orElse startedAs fresh in refl
 
-pub start-exactly : (m t : List ℕ) (root r : ℕ) → (shown (started m t root .answer) ≡ refused r) ↔ Given r (startConditions m t root)
-start-exactly m t root r = (to, from)
+pub start-exactly : (m t : List ℕ) (g : Setting) (r : ℕ) → (shown (started m t g .answer) ≡ refused r) ↔ Given r (startConditions m t g)
+start-exactly m t g r = (to, from)
   where
-    go : (y : Option ℕ) → firstHolding (startConditions m t root) ≡ y → startedAs y m root .0 ≡ refused r → Given r (startConditions m t root)
-    go (some n) e p = first-given (startConditions m t root) r (e ∙ ap some (refused-number r n (unfold startedAs in p)))
+    go : (y : Option ℕ) → firstHolding (startConditions m t g) ≡ y → startedAs y m g .0 ≡ refused r → Given r (startConditions m t g)
+    go (some n) e p = first-given (startConditions m t g) r (e ∙ ap some (refused-number r n (unfold startedAs in p)))
     go none e p = absurd (not-refused (ok 0) r (unfold isRefused in refl) (unfold startedAs in p))
 
-    to : shown (started m t root .answer) ≡ refused r → Given r (startConditions m t root)
-    to p = go (firstHolding (startConditions m t root)) refl (sym (ap (λ (y : Result × State). y .0) (start-same m t root)) ∙ p)
+    to : shown (started m t g .answer) ≡ refused r → Given r (startConditions m t g)
+    to p = go (firstHolding (startConditions m t g)) refl (sym (ap (λ (y : Result × State). y .0) (start-same m t g)) ∙ p)
 
-    from : Given r (startConditions m t root) → shown (started m t root .answer) ≡ refused r
-    from g =
-        ap (λ (y : Result × State). y .0) (start-same m t root)
-        ∙ ap (λ y. startedAs y m root .0) (given-first (startConditions m t root) r g)
+    from : Given r (startConditions m t g) → shown (started m t g .answer) ≡ refused r
+    from h =
+        ap (λ (y : Result × State). y .0) (start-same m t g)
+        ∙ ap (λ y. startedAs y m g .0) (given-first (startConditions m t g) r h)
         ∙ (unfold startedAs in refl)
 
-pub start-plain : (m t : List ℕ) (root : ℕ) → ((r : ℕ) → Given r (startConditions m t root) → ⊥) → visible (started m t root) ≡ (ok 0, fresh m root)
-start-plain m t root h =
-    start-same m t root ∙ ap (λ y. startedAs y m root) (none-holds (startConditions m t root) h) ∙ (unfold startedAs in refl)
+pub start-plain : (m t : List ℕ) (g : Setting) → ((r : ℕ) → Given r (startConditions m t g) → ⊥) → visible (started m t g) ≡ (ok 0, fresh m g)
+start-plain m t g h =
+    start-same m t g ∙ ap (λ y. startedAs y m g) (none-holds (startConditions m t g) h) ∙ (unfold startedAs in refl)
 
 -- turned back with zero registers, or the emptied track noted
-pub data Begun (y : After) (m t : List ℕ) (root : ℕ) : Type 0 where
-  back : (n : Refusal) → y ≡ turnedBack n zeroRegisters m t → Begun y m t root
-  done : isRefused (shown (y .answer)) ≡ false → 0 < contexts t → y .track ≡ noteTrack m root 0 (flushAll t) → Begun y m t root
+pub data Begun (y : After) (m t : List ℕ) (g : Setting) : Type 0 where
+  back : (n : Refusal) → y ≡ turnedBack n zeroRegisters m t → Begun y m t g
+  done : isRefused (shown (y .answer)) ≡ false → 0 < contexts oldWindow t → y .track ≡ noteTrack oldWindow m (tablesOf (startRegisters g)) 0 (flushAll oldWindow t) → Begun y m t g
 
-pub has-context : (m t : List ℕ) → lengthsFit (length m) (length t) ≡ true → 0 < contexts t
+pub has-context : (w : ℕ) (m t : List ℕ) → lengthsFit w (length m) (length t) ≡ true → 0 < contexts w t
 unfolding lengthsFit trackFits contexts
-has-context m t p = go (memoryFits (length m)) (eqb (length t % rowSize) 0) (leb (2 * rowSize) (length t)) refl p
+has-context w m t p = go (memoryFits (length m)) (eqb (k * rowSize w) (length t)) (leb 2 k) refl p
   where
-    go : (x y z : Bool) → leb (2 * rowSize) (length t) ≡ z → cond x (cond y (cond z (leb (length t) ((contextsMost + 1) * rowSize)) false) false) false ≡ true → 0 < length t / rowSize - 1
-    go true true true e q = let h = leb-true (2 * rowSize) (length t) e in omega arith
+    k : ℕ
+    k = rowsOf w (length t)
+
+    go : (x y z : Bool) → leb 2 k ≡ z → cond x (cond y (cond z (leb k (contextsMost + 1)) false) false) false ≡ true → 0 < k - 1
+    go true true true e q = let h = leb-true 2 k e in omega arith
     go true true false e q = absurd (true≢false (sym q))
     go true false z e q = absurd (true≢false (sym q))
     go false y z e q = absurd (true≢false (sym q))
 
 -- the track of an accepted start has whole rows
-pub start-lengths : (m t : List ℕ) (root : ℕ) → ((r : ℕ) → Given r (startConditions m t root) → ⊥) → length t ≡ rowSize * (contexts t + 1)
+pub start-lengths : (m t : List ℕ) (g : Setting) → ((r : ℕ) → Given r (startConditions m t g) → ⊥) → length t ≡ rowSize oldWindow * (contexts oldWindow t + 1)
 unfolding startConditions Given refuses13
-start-lengths m t root h = go (eqb (length t) (rowSize * (contexts t + 1))) refl
+start-lengths m t g h = go (eqb (length t) (rowSize oldWindow * (contexts oldWindow t + 1))) refl
   where
-    go : (b : Bool) → eqb (length t) (rowSize * (contexts t + 1)) ≡ b → length t ≡ rowSize * (contexts t + 1)
-    go true q = eqb-true (length t) (rowSize * (contexts t + 1)) q
-    go false q = absurd (h 13 (inl (refl, rw q (or-true (wrongMemory m)))))
+    go : (b : Bool) → eqb (length t) (rowSize oldWindow * (contexts oldWindow t + 1)) ≡ b → length t ≡ rowSize oldWindow * (contexts oldWindow t + 1)
+    go true e = eqb-true (length t) (rowSize oldWindow * (contexts oldWindow t + 1)) e
+    go false e = absurd (h 13 (inl (refl, rw e (or-true (wrongMemory m)))))
 
-pub begun : (m t : List ℕ) (root : ℕ) → Begun (started m t root) m t root
+pub begun : (m t : List ℕ) (g : Setting) → Begun (started m t g) m t g
 unfolding started
-begun m t root = go (firstFailing (startChecksOf m t root)) refl
+begun m t g = go (firstFailing (startChecksOf m t g)) refl
   where
-    go : (y : Check) → firstFailing (startChecksOf m t root) ≡ y → Begun (startedBy y m t root) m t root
+    go : (y : Check) → firstFailing (startChecksOf m t g) ≡ y → Begun (startedBy y m t g) m t g
     go (Refuse n) e = back n refl
-    go Pass e = done (unfold isRefused in refl) (has-context m t (unfold Hold startChecks in passed (startChecksOf m t root) e .0)) refl
+    go Pass e = done (unfold isRefused in refl) (has-context oldWindow m t (unfold Hold startChecks in passed (startChecksOf m t g) e .0)) refl
 
-pub start-unchanged : (m t : List ℕ) (root r : ℕ) → shown (started m t root .answer) ≡ refused r → Leaves (started m t root) zeroRegisters m t
-start-unchanged m t root r p = go (begun m t root)
+pub start-unchanged : (m t : List ℕ) (g : Setting) (r : ℕ) → shown (started m t g .answer) ≡ refused r → Leaves (started m t g) zeroRegisters m t
+start-unchanged m t g r p = go (begun m t g)
   where
-    go : Begun (started m t root) m t root → Leaves (started m t root) zeroRegisters m t
-    go (back n e) = leaves-back (started m t root) n zeroRegisters m t e
-    go (done a h e) = absurd (not-refused (shown (started m t root .answer)) r a p)
+    go : Begun (started m t g) m t g → Leaves (started m t g) zeroRegisters m t
+    go (back n e) = leaves-back (started m t g) n zeroRegisters m t e
+    go (done a h e) = absurd (not-refused (shown (started m t g .answer)) r a p)
 
 -- the flush of everything
 everything : Operation
 everything = record { kind = All; a = 0; b = 0; c = 0 }
 
-all-length : (t : List ℕ) → length (flushAll t) ≡ length t
+all-length : (w : ℕ) (t : List ℕ) → length (flushAll w t) ≡ length t
 unfolding flushOf contextFits
-all-length t = flushed-length All everything t refl
+all-length w t = flushed-length w All everything t refl
 
-all-words : (t : List ℕ) → 0 < contexts t → (u : Scope) (p : ℕ) → hasRow t u ≡ true → p < rowSize → trackWord (flushAll t) u p ≡ 0
+all-words : (w : ℕ) (t : List ℕ) → 0 < contexts w t → (u : Scope) (p : ℕ) → hasRow w t u ≡ true → p < rowSize w → trackWord w (flushAll w t) u p ≡ 0
 unfolding flushOf contextFits flushes
-all-words t k u p h q = flushed-word All everything t k refl u p h q
+all-words w t k u p h q = flushed-word w All everything t k refl u p h q
 
-all-contexts : (t : List ℕ) → contexts (flushAll t) ≡ contexts t
+all-contexts : (w : ℕ) (t : List ℕ) → contexts w (flushAll w t) ≡ contexts w t
 unfolding contexts
-all-contexts t = ap (λ n. n / rowSize - 1) (all-length t)
+all-contexts w t = ap (λ n. n / rowSize w - 1) (all-length w t)
 
-all-rows : (t : List ℕ) (u : Scope) → hasRow t u ≡ true → hasRow (flushAll t) u ≡ true
+all-rows : (w : ℕ) (t : List ℕ) (u : Scope) → hasRow w t u ≡ true → hasRow w (flushAll w t) u ≡ true
 unfolding hasRow
-all-rows t (own c) h = ap (ltb c) (all-contexts t) ∙ h
-all-rows t global h = refl
+all-rows w t (own c) h = ap (ltb c) (all-contexts w t) ∙ h
+all-rows w t global h = refl
 
-pub start-words : (m t : List ℕ) (root : ℕ) → ((r : ℕ) → Given r (startConditions m t root) → ⊥) → (u : Scope) (p : ℕ) → hasRow t u ≡ true → p < rowSize →
-    trackWord (started m t root .track) u p ≡ notedIn (fresh m root) u p 0
-start-words m t root h u p d q = go (begun m t root)
+pub start-words : (m t : List ℕ) (g : Setting) → ((r : ℕ) → Given r (startConditions m t g) → ⊥) → (u : Scope) (p : ℕ) → hasRow oldWindow t u ≡ true → p < rowSize oldWindow →
+    trackWord oldWindow (started m t g .track) u p ≡ notedIn (fresh m g) u p 0
+start-words m t g h u p d q = go (begun m t g)
   where
-    go : Begun (started m t root) m t root → trackWord (started m t root .track) u p ≡ notedIn (fresh m root) u p 0
-    go (back n e) = absurd (h (refusalNumber n) (start-exactly m t root (refusalNumber n) .0 (ap (λ (z : After). shown (z .answer)) e)))
+    go : Begun (started m t g) m t g → trackWord oldWindow (started m t g .track) u p ≡ notedIn (fresh m g) u p 0
+    go (back n e) = absurd (h (refusalNumber n) (start-exactly m t g (refusalNumber n) .0 (ap (λ (z : After). shown (z .answer)) e)))
     go (done a k e) =
-        ap (λ l. trackWord l u p) e
-        ∙ noted-word m (startRegisters root) (flushAll t) (rw (all-contexts t) k) u p (all-rows t u d) q
-        ∙ ap (notedIn (state (startRegisters root) m) u p) (all-words t k u p d q)
+        ap (λ l. trackWord oldWindow l u p) e
+        ∙ noted-word oldWindow m (startRegisters g) (flushAll oldWindow t) (rw (all-contexts oldWindow t) k) u p (all-rows oldWindow t u d) q
+        ∙ ap (notedIn (state (startRegisters g) m) u p) (all-words oldWindow t k u p d q)
         ∙ (unfold fresh in refl)
 
-pub start-track-length : (m t : List ℕ) (root : ℕ) → length (started m t root .track) ≡ length t
-start-track-length m t root = go (begun m t root)
+pub start-track-length : (m t : List ℕ) (g : Setting) → length (started m t g .track) ≡ length t
+start-track-length m t g = go (begun m t g)
   where
-    go : Begun (started m t root) m t root → length (started m t root .track) ≡ length t
+    go : Begun (started m t g) m t g → length (started m t g .track) ≡ length t
     go (back n e) = ap (λ (z : After). length (z .track)) e
-    go (done a k e) = ap length e ∙ noted-length m (startRegisters root) (flushAll t) (rw (all-contexts t) k) ∙ all-length t
+    go (done a k e) = ap length e ∙ noted-length oldWindow m (startRegisters g) (flushAll oldWindow t) (rw (all-contexts oldWindow t) k) ∙ all-length oldWindow t
 
 -- ── The two theorems ──
 

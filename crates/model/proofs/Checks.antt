@@ -1,20 +1,22 @@
 -- Each check of the step fails exactly when the reference's condition of its refusal holds.
-use Prim.Native.Nat.{ℕ, suc, _+_, _*_, _-_, _/_, _%_, _≤_, _<_}
+use Prim.Native.Nat.{ℕ, suc, _+_, _*_, _-_, _/_, _%_, _^_, _≤_, _<_}
 use mathlib.Core.Path.{_≡_, refl, sym, ap, ap₂, _∙_}
 use mathlib.Core.Bool.{Bool, true, false, cond, not, _&&_, _||_}
 use mathlib.Core.List.{List, [], _∷_, _++_}
+use native.Mathlib.Nat.{mul-comm}
 use native.Mathlib.Omega.{arith}
 use lib.Dec.{eqb, leb, ltb}
 use lib.ListN.{length}
-use borrow.Author.Tests.{eqb-true, eqb-false, eq-eqb, ne-eqb, leb-true, le-leb}
-use Rattle.model.specs.Limits.{addressLimit, rowSize, rootAlignment, memoryUnit, memoryMost, contextsMost, wordLimit}
+use lib.Pow.{pow-add, shl-shr}
+use borrow.Author.Tests.{eqb-true, eqb-false, eq-eqb, ne-eqb, ltb-true, ltb-false, leb-true, le-leb}
+use Rattle.model.specs.Limits.{pageSize, sectionSize, oldSplit, oldWindow, addressLimit, rowSize, rootAlignment, memoryUnit, memoryMost, contextsMost, wordLimit}
 use Rattle.model.specs.Numbers.{refusalNumber}
 use Rattle.model.specs.reference.Rules.{among, contexts, refuses7, refuses8, refuses9, refuses10, refuses11, refuses12, refuses13, refuses14, refuses15, refuses16, refuses17, refuses20, conditions, startConditions}
-use Rattle.model.specs.step.Track.{lastRow}
-use Rattle.model.specs.step.Checks.{memoryFits, trackFits, lengthsFit, rootFits, domainsFit, registersFit, isSize, sizeFits, addressFits, fitsSize, valueFits, newRootFits, contextFits, modeFits, newDomainsFit, mayAsk, rootMayChange, checks, startChecks}
+use Rattle.model.specs.step.Track.{rowsOf, lastRow}
+use Rattle.model.specs.step.Checks.{memoryFits, trackFits, lengthsFit, alignmentOf, rootFits, inWindow, domainsFit, registersFit, isSize, sizeFits, addressFits, fitsSize, valueFits, newRootFits, contextFits, modeFits, newDomainsFit, mayAsk, rootMayChange, checks, startChecks}
 use Rattle.model.specs.Demands.{Call, conditionsOf}
-use Rattle.model.specs.Types.{Registers, Operation, Kind, Read, Write, Root, Asid, Mode, All, Addr, Ctx, AddrCtx, Fetch, Domain, Refusal}
-use Rattle.model.proofs.BoolLaws.{same-test, and-both, not-ltb, not-leb, or-false, three-and, three-or, not-four, not-two}
+use Rattle.model.specs.Types.{Registers, Setting, Operation, Kind, Read, Write, Root, Asid, Mode, All, Addr, Ctx, AddrCtx, Fetch, Domain, Refusal}
+use Rattle.model.proofs.BoolLaws.{same-test, and-both, not-ltb, not-leb, or-false, three-and, three-or, not-four, not-two, leb-same}
 use Rattle.model.proofs.Fields.{domains-same}
 
 -- an operation with these parts
@@ -39,20 +41,29 @@ size-same AddrCtx a b c = refl
 size-same Fetch a b c = refl
 size-same Domain a b c = refl
 
--- 8
-pub address-same : (k : Kind) (a b c : ℕ) → not (addressFits k a) ≡ refuses8 (op k a b c)
+-- 8: an address lies in the window or reaches its limit
+pub window-test : (w a : ℕ) → not (inWindow w a) ≡ leb (addressLimit w) a
+unfolding addressLimit
+window-test w a = not-ltb (a / sectionSize) w ∙ leb-same w (a / sectionSize) (w * sectionSize) a (λ h. omega arith) (λ h. omega arith)
+
+-- the pages of a row are those of the window: each has its addresses there, and there are no others
+pub row-pages : (w : ℕ) → rowSize w * pageSize ≡ addressLimit w
+unfolding rowSize addressLimit
+row-pages w = omega arith
+
+pub address-same : (w : ℕ) (k : Kind) (a b c : ℕ) → not (addressFits w k a) ≡ refuses8 (op k a b c) w
 unfolding addressFits refuses8 among
-address-same Read a b c = not-ltb a addressLimit
-address-same Write a b c = not-ltb a addressLimit
-address-same Root a b c = refl
-address-same Asid a b c = refl
-address-same Mode a b c = refl
-address-same All a b c = refl
-address-same Addr a b c = not-ltb a addressLimit
-address-same Ctx a b c = refl
-address-same AddrCtx a b c = not-ltb a addressLimit
-address-same Fetch a b c = not-ltb a addressLimit
-address-same Domain a b c = refl
+address-same w Read a b c = window-test w a
+address-same w Write a b c = window-test w a
+address-same w Root a b c = refl
+address-same w Asid a b c = refl
+address-same w Mode a b c = refl
+address-same w All a b c = refl
+address-same w Addr a b c = window-test w a
+address-same w Ctx a b c = refl
+address-same w AddrCtx a b c = window-test w a
+address-same w Fetch a b c = window-test w a
+address-same w Domain a b c = refl
 
 -- 9
 value-test : (b c : ℕ) → not (fitsSize b c) ≡ (eqb b 1 && leb 0x100 c || eqb b 2 && leb 0x10000 c || eqb b 4 && leb 0x100000000 c)
@@ -86,20 +97,38 @@ value-same AddrCtx a b c = refl
 value-same Fetch a b c = refl
 value-same Domain a b c = refl
 
--- 10
-pub root-same : (k : Kind) (a b c : ℕ) → not (newRootFits k a) ≡ refuses10 (op k a b c)
-unfolding newRootFits rootFits refuses10 among
-root-same Read a b c = refl
-root-same Write a b c = refl
-root-same Root a b c = refl
-root-same Asid a b c = refl
-root-same Mode a b c = refl
-root-same All a b c = refl
-root-same Addr a b c = refl
-root-same Ctx a b c = refl
-root-same AddrCtx a b c = refl
-root-same Fetch a b c = refl
-root-same Domain a b c = refl
+-- 10: a power of two shifted down is the power that is left
+pub power-shift : (k n : ℕ) → n ≤ k → 2 ^ k / 2 ^ n ≡ 2 ^ (k - n)
+power-shift k n h =
+    ap (λ (x : ℕ). 2 ^ x / 2 ^ n) (let e : k ≡ k - n + n = omega arith in e)
+    ∙ ap (λ (x : ℕ). x / 2 ^ n) (pow-add 2 (k - n) n)
+    ∙ shl-shr (2 ^ (k - n)) n
+
+pub alignment-same : (n : ℕ) → alignmentOf n ≡ rootAlignment n
+unfolding alignmentOf rootAlignment
+alignment-same n = go (ltb n 15) refl
+  where
+    go : (b : Bool) → ltb n 15 ≡ b → cond b (16384 / 2 ^ n) 1 ≡ 2 ^ (14 - n)
+    go true e = power-shift 14 n (let h = ltb-true n 15 e in omega arith)
+    go false e = ap (λ (x : ℕ). 2 ^ x) (let h = ltb-false n 15 e in let z : 0 ≡ 14 - n = omega arith in z)
+
+pub root-test : (n root : ℕ) → not (rootFits n root) ≡ not (eqb (root % rootAlignment n) 0)
+unfolding rootFits
+root-test n root = ap (λ (x : ℕ). not (eqb (root % x) 0)) (alignment-same n)
+
+pub root-same : (n : ℕ) (k : Kind) (a b c : ℕ) → not (newRootFits n k a) ≡ refuses10 (op k a b c) n
+unfolding newRootFits refuses10 among
+root-same n Read a b c = refl
+root-same n Write a b c = refl
+root-same n Root a b c = root-test n a
+root-same n Asid a b c = refl
+root-same n Mode a b c = refl
+root-same n All a b c = refl
+root-same n Addr a b c = refl
+root-same n Ctx a b c = refl
+root-same n AddrCtx a b c = refl
+root-same n Fetch a b c = refl
+root-same n Domain a b c = refl
 
 -- 11
 pub context-same : (k : Kind) (a b c n : ℕ) → not (contextFits k a b n) ≡ refuses11 (op k a b c) n
@@ -132,46 +161,52 @@ mode-same Fetch a b c = refl
 mode-same Domain a b c = refl
 
 -- 13
-track-test : (n : ℕ) → trackFits n ≡ (eqb n (rowSize * (lastRow n + 1)) && leb 1 (lastRow n) && leb (lastRow n) contextsMost)
+track-test : (w n : ℕ) → trackFits w n ≡ (eqb n (rowSize w * (lastRow w n + 1)) && leb 1 (lastRow w n) && leb (lastRow w n) contextsMost)
 unfolding trackFits lastRow
-track-test n =
-    three-and (eqb (n % rowSize) 0) (leb (2 * rowSize) n) (leb n ((contextsMost + 1) * rowSize)) ∙ same-test _ _ to from
+track-test w n =
+    three-and (eqb (k * size) n) (leb 2 k) (leb k (contextsMost + 1)) ∙ same-test _ _ to from
   where
-    to : (eqb (n % rowSize) 0 && leb (2 * rowSize) n && leb n ((contextsMost + 1) * rowSize)) ≡ true →
-        (eqb n (rowSize * (lastRow n + 1)) && leb 1 (lastRow n) && leb (lastRow n) contextsMost) ≡ true
+    k : ℕ
+    k = rowsOf w n
+
+    size : ℕ
+    size = rowSize w
+
+    whole : 2 ≤ k → k * size ≡ size * (k - 1 + 1)
+    whole h = mul-comm k size ∙ ap (λ (x : ℕ). size * x) (let e : k ≡ k - 1 + 1 = omega arith in e)
+
+    to : (eqb (k * size) n && leb 2 k && leb k (contextsMost + 1)) ≡ true → (eqb n (size * (k - 1 + 1)) && leb 1 (k - 1) && leb (k - 1) contextsMost) ≡ true
     to p =
-        let a = and-both _ (leb n ((contextsMost + 1) * rowSize)) p in
-        let b = and-both (eqb (n % rowSize) 0) (leb (2 * rowSize) n) (a .0) in
-        let whole = eqb-true (n % rowSize) 0 (b .0) in
-        let least = leb-true (2 * rowSize) n (b .1) in
-        let most = leb-true n ((contextsMost + 1) * rowSize) (a .1) in
-        ap₂ _&&_ (ap₂ _&&_ (eq-eqb n (rowSize * (lastRow n + 1)) (omega arith)) (le-leb 1 (lastRow n) (omega arith))) (le-leb (lastRow n) contextsMost (omega arith))
+        let a = and-both _ (leb k (contextsMost + 1)) p in
+        let b = and-both (eqb (k * size) n) (leb 2 k) (a .0) in
+        let least = leb-true 2 k (b .1) in
+        let most = leb-true k (contextsMost + 1) (a .1) in
+        ap₂ _&&_ (ap₂ _&&_ (eq-eqb n (size * (k - 1 + 1)) (sym (eqb-true (k * size) n (b .0)) ∙ whole least)) (le-leb 1 (k - 1) (omega arith))) (le-leb (k - 1) contextsMost (omega arith))
 
-    from : (eqb n (rowSize * (lastRow n + 1)) && leb 1 (lastRow n) && leb (lastRow n) contextsMost) ≡ true →
-        (eqb (n % rowSize) 0 && leb (2 * rowSize) n && leb n ((contextsMost + 1) * rowSize)) ≡ true
+    from : (eqb n (size * (k - 1 + 1)) && leb 1 (k - 1) && leb (k - 1) contextsMost) ≡ true → (eqb (k * size) n && leb 2 k && leb k (contextsMost + 1)) ≡ true
     from p =
-        let a = and-both _ (leb (lastRow n) contextsMost) p in
-        let b = and-both (eqb n (rowSize * (lastRow n + 1))) (leb 1 (lastRow n)) (a .0) in
-        let whole = eqb-true n (rowSize * (lastRow n + 1)) (b .0) in
-        let least = leb-true 1 (lastRow n) (b .1) in
-        let most = leb-true (lastRow n) contextsMost (a .1) in
-        ap₂ _&&_ (ap₂ _&&_ (eq-eqb (n % rowSize) 0 (omega arith)) (le-leb (2 * rowSize) n (omega arith))) (le-leb n ((contextsMost + 1) * rowSize) (omega arith))
+        let a = and-both _ (leb (k - 1) contextsMost) p in
+        let b = and-both (eqb n (size * (k - 1 + 1))) (leb 1 (k - 1)) (a .0) in
+        let least = leb-true 1 (k - 1) (b .1) in
+        let most = leb-true (k - 1) contextsMost (a .1) in
+        let two : 2 ≤ k = omega arith in
+        ap₂ _&&_ (ap₂ _&&_ (eq-eqb (k * size) n (whole two ∙ sym (eqb-true n (size * (k - 1 + 1)) (b .0)))) (le-leb 2 k two)) (le-leb k (contextsMost + 1) (omega arith))
 
-pub lengths-same : (m t : List ℕ) → not (lengthsFit (length m) (length t)) ≡ refuses13 m t
+pub lengths-same : (w : ℕ) (m t : List ℕ) → not (lengthsFit w (length m) (length t)) ≡ refuses13 w m t
 unfolding lengthsFit memoryFits refuses13 contexts lastRow
-lengths-same m t =
-    not-two (memoryFits (length m)) (trackFits (length t))
+lengths-same w m t =
+    not-two (memoryFits (length m)) (trackFits w (length t))
     ∙ ap₂ (λ x y. not x || not y)
     (three-and (eqb (length m % memoryUnit) 0) (leb memoryUnit (length m)) (leb (length m) memoryMost))
-    (track-test (length t))
+    (track-test w (length t))
 
 -- 14, and 17
 pub registers-same : (r : Registers) (n : ℕ) → not (registersFit r n) ≡ refuses14 r n
-unfolding registersFit rootFits refuses14
+unfolding registersFit refuses14
 registers-same r n =
-    not-four (eqb (r .root % rootAlignment) 0) (ltb (r .context) n) (leb (r .mode) 1) (domainsFit (r .domains))
-    ∙ ap₂ (λ x y. not (eqb (r .root % rootAlignment) 0) || x || y || not (domainsFit (r .domains))) (not-ltb (r .context) n) (not-leb (r .mode) 1)
-    ∙ ap (λ z. not (eqb (r .root % rootAlignment) 0) || leb n (r .context) || leb 2 (r .mode) || z) (domains-same (r .domains))
+    not-four (rootFits oldSplit (r .root)) (ltb (r .context) n) (leb (r .mode) 1) (domainsFit (r .domains))
+    ∙ ap₂ (λ x y. not (rootFits oldSplit (r .root)) || x || y || not (domainsFit (r .domains))) (not-ltb (r .context) n) (not-leb (r .mode) 1)
+    ∙ ap₂ (λ x y. x || leb n (r .context) || leb 2 (r .mode) || y) (root-test oldSplit (r .root)) (domains-same (r .domains))
 
 pub new-domains-same : (k : Kind) (a b c : ℕ) → not (newDomainsFit k a) ≡ refuses17 (op k a b c)
 unfolding newDomainsFit refuses17 among
@@ -231,13 +266,13 @@ pub checks-same : (x : Call) →
     asConditions (checks (x .operation) (x .registers) (length (x .memory)) (length (x .track))) ++ (staleCondition x ∷ []) ≡ conditionsOf x
 unfolding asConditions checks conditions contexts lastRow
 checks-same x = λ i.
-    (13, lengths-same (x .memory) (x .track) i)
-    ∷ (14, registers-same (x .registers) (lastRow (length (x .track))) i)
+    (13, lengths-same oldWindow (x .memory) (x .track) i)
+    ∷ (14, registers-same (x .registers) (lastRow oldWindow (length (x .track))) i)
     ∷ (7, size-same k a b c i)
-    ∷ (8, address-same k a b c i)
+    ∷ (8, address-same oldWindow k a b c i)
     ∷ (9, value-same k a b c i)
-    ∷ (10, root-same k a b c i)
-    ∷ (11, context-same k a b c (lastRow (length (x .track))) i)
+    ∷ (10, root-same oldSplit k a b c i)
+    ∷ (11, context-same k a b c (lastRow oldWindow (length (x .track))) i)
     ∷ (12, mode-same k a b c i)
     ∷ (17, new-domains-same k a b c i)
     ∷ (15, asking-same k a b c (x .registers) i)
@@ -258,6 +293,6 @@ checks-same x = λ i.
     c = x .operation .c
 
 -- the checks of a start are its conditions
-pub start-checks-same : (m t : List ℕ) (root : ℕ) → asConditions (startChecks (length m) (length t) root) ≡ startConditions m t root
-unfolding asConditions startChecks startConditions rootFits
-start-checks-same m t root = λ i. (13, lengths-same m t i) ∷ (10, not (eqb (root % rootAlignment) 0)) ∷ []
+pub start-checks-same : (m t : List ℕ) (g : Setting) → asConditions (startChecks (length m) (length t) g) ≡ startConditions m t g
+unfolding asConditions startChecks startConditions
+start-checks-same m t g = λ i. (13, lengths-same oldWindow m t i) ∷ (10, root-test oldSplit (g .root) i) ∷ []

@@ -13,7 +13,7 @@ use Rattle.tlb.specs.Machine.{Walk, entry, fault}
 use Rattle.tlb.specs.Laws.{Tlb}
 use Rattle.tlb.specs.Places.{Within, NoClash, Apart}
 use Rattle.tlb.proofs.PlaceLaws.{none-some, some-same, within-none, within-dropped, within-put, within-flushed, within-kept, map-none, apart-none, apart-dropped, apart-put, apart-flushed}
-use Rattle.model.specs.Limits.{pageSize, rowSize}
+use Rattle.model.specs.Limits.{pageSize, oldWindow, rowSize}
 use Rattle.model.specs.reference.Rules.{Translation, found, failed, State, outcome, Scope, scopeOf, covers, flushes, Held, Places, heldScope, matches, heldFor, anyClash, Move, drop, load, isFree, putIn, move, moves, orWalk, flushPlace}
 use Rattle.model.specs.Types.{Operation, Entry}
 use Rattle.model.proofs.BoolLaws.{and-both}
@@ -54,17 +54,17 @@ put-holds i c p (failed n) ps h y = inl y
 
 -- what a load brings: an entry that the tables now give for a page of the window, under the current context
 pub load-brings : (s : State) (ps : Places) (i page : ℕ) (h : Held) → Within h (move s ps (load i page)) →
-    Within h ps ⊎ ((e : Entry) × (ltb page rowSize ≡ true) × (outcome s (page * pageSize) ≡ found e) × (held (s .registers .context) page e ≡ h))
+    Within h ps ⊎ ((e : Entry) × (ltb page (rowSize oldWindow) ≡ true) × (outcome s (page * pageSize) ≡ found e) × (held (s .registers .context) page e ≡ h))
 unfolding move
-load-brings s ps i page h y = go (isFree (getD ps i none)) (ltb page rowSize) refl y
+load-brings s ps i page h y = go (isFree (getD ps i none)) (ltb page (rowSize oldWindow)) refl y
   where
-    go : (a b : Bool) → ltb page rowSize ≡ b →
+    go : (a b : Bool) → ltb page (rowSize oldWindow) ≡ b →
         Within h (cond (a && b) (putIn i (s .registers .context) page (outcome s (page * pageSize)) ps) ps) →
-        Within h ps ⊎ ((e : Entry) × (ltb page rowSize ≡ true) × (outcome s (page * pageSize) ≡ found e) × (held (s .registers .context) page e ≡ h))
+        Within h ps ⊎ ((e : Entry) × (ltb page (rowSize oldWindow) ≡ true) × (outcome s (page * pageSize) ≡ found e) × (held (s .registers .context) page e ≡ h))
     go true true q w = at (put-holds i (s .registers .context) page (outcome s (page * pageSize)) ps h w)
       where
         at : Within h ps ⊎ ((e : Entry) × (outcome s (page * pageSize) ≡ found e) × (held (s .registers .context) page e ≡ h)) →
-            Within h ps ⊎ ((e : Entry) × (ltb page rowSize ≡ true) × (outcome s (page * pageSize) ≡ found e) × (held (s .registers .context) page e ≡ h))
+            Within h ps ⊎ ((e : Entry) × (ltb page (rowSize oldWindow) ≡ true) × (outcome s (page * pageSize) ≡ found e) × (held (s .registers .context) page e ≡ h))
         at (inl z) = inl z
         at (inr z) = inr (z .0, q, z .1, z .2)
     go true false q w = inl w
@@ -75,13 +75,13 @@ elsewhere : (u : Scope × ℕ) (e : Entry) (ps qs : Places) (y : HoldsIn u e ps)
 elsewhere u e ps qs y w = record { thing = y .thing; inside = w; scope-is = y .scope-is; page-is = y .page-is; entry-is = y .entry-is }
 
 move-holds : (s : State) (ps : Places) (m : Move) (u : Scope × ℕ) (e : Entry) → HoldsIn u e (move s ps m) →
-    HoldsIn u e ps ⊎ ((page : ℕ) × (ltb page rowSize ≡ true) × (walkOf s page ≡ entry e) × (_≡_ {A = Scope × ℕ} (scopeOf (s .registers .context) e, page) u))
+    HoldsIn u e ps ⊎ ((page : ℕ) × (ltb page (rowSize oldWindow) ≡ true) × (walkOf s page ≡ entry e) × (_≡_ {A = Scope × ℕ} (scopeOf (s .registers .context) e, page) u))
 unfolding walkOf heldScope
 move-holds s ps (drop i) u e y = inl (elsewhere u e _ ps y (within-dropped (y .thing) i ps (unfold move in y .inside)))
 move-holds s ps (load i page) u e y = go (load-brings s ps i page (y .thing) (y .inside))
   where
-    go : Within (y .thing) ps ⊎ ((x : Entry) × (ltb page rowSize ≡ true) × (outcome s (page * pageSize) ≡ found x) × (held (s .registers .context) page x ≡ y .thing)) →
-        HoldsIn u e ps ⊎ ((k : ℕ) × (ltb k rowSize ≡ true) × (asWalk (outcome s (k * pageSize)) ≡ entry e) × (_≡_ {A = Scope × ℕ} (scopeOf (s .registers .context) e, k) u))
+    go : Within (y .thing) ps ⊎ ((x : Entry) × (ltb page (rowSize oldWindow) ≡ true) × (outcome s (page * pageSize) ≡ found x) × (held (s .registers .context) page x ≡ y .thing)) →
+        HoldsIn u e ps ⊎ ((k : ℕ) × (ltb k (rowSize oldWindow) ≡ true) × (asWalk (outcome s (k * pageSize)) ≡ entry e) × (_≡_ {A = Scope × ℕ} (scopeOf (s .registers .context) e, k) u))
     go (inl w) = inl (elsewhere u e _ ps y w)
     go (inr z) =
         let q = z .3 in
@@ -162,7 +162,7 @@ unfolding anyClash
 none-clash h zero = refl
 none-clash h (suc n) = none-clash h n
 
-loads-empty : (n : ℕ) (s : State) (page : ℕ) (e : Entry) → ltb page rowSize ≡ true → walkOf s page ≡ entry e →
+loads-empty : (n : ℕ) (s : State) (page : ℕ) (e : Entry) → ltb page (rowSize oldWindow) ≡ true → walkOf s page ≡ entry e →
     (m : Move) × HoldsIn (scopeOf (s .registers .context) e, page) e (move s (replicate (suc n) none) m)
 unfolding walkOf heldScope
 loads-empty n s page e h w =

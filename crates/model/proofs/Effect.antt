@@ -3,11 +3,11 @@ use Prim.Native.Nat.{ℕ, suc, _+_, _*_, _-_, _/_, _%_, _≤_, _<_}
 use mathlib.Core.Path.{_≡_, refl, sym, ap, ap₂, _∙_}
 use mathlib.Core.Bool.{Bool, true, false, cond, not, _&&_, _||_, true≢false}
 use mathlib.Core.List.{List, [], _∷_}
-use native.Mathlib.Omega.{arith}
+use native.Mathlib.Nat.{mul-comm}
 use lib.Dec.{eqb, leb}
 use lib.ListN.{length, getD}
 use borrow.Author.Tests.{eqb-true, eqb-false, eq-eqb, ne-eqb}
-use Rattle.model.specs.Limits.{pageSize, rowSize}
+use Rattle.model.specs.Limits.{pageSize, oldWindow, rowSize}
 use Rattle.model.specs.Numbers.{Result, ok, fault, refused, shown, faultNumber}
 use Rattle.model.specs.reference.Rules.{Translation, found, failed, inMemory, value, stored, walk, physical, permissionFault, domainFault, ruled, fieldOf, ruling, State, Scope, own, global, aligned, accessSize, touched, translated, access, setRegisters, effect, outcome, carriedOut, trackWord, contexts, rowOf, stale, kept, differs, among, refuses16}
 use Rattle.model.specs.step.Memory.{bytesOf, within, loadAt, writtenAt}
@@ -15,9 +15,9 @@ use Rattle.model.specs.step.Walk.{walkPage}
 use Rattle.model.specs.step.Rights.{fieldAt, rulingOf}
 use Rattle.model.specs.step.Track.{noteTrack, lastRow, wordAt, staleWord, stalePage}
 use Rattle.model.specs.step.Checks.{isSize, sizeFits}
-use Rattle.model.specs.step.Machine.{After, sizeOf, valueOf, physicalOf, permissionFaultOf, domainFaultOf, reached, granted, decided, accessAt, readFrom, writeTo, readStep, writeStep, fetchStep, operate}
+use Rattle.model.specs.step.Machine.{After, tablesOf, sizeOf, valueOf, physicalOf, permissionFaultOf, domainFaultOf, reached, granted, decided, accessAt, readFrom, writeTo, readStep, writeStep, fetchStep, operate}
 use Rattle.model.specs.Demands.{visible}
-use Rattle.model.specs.Types.{Registers, Operation, Kind, Read, Write, Root, Asid, Mode, All, Addr, Ctx, AddrCtx, Fetch, Domain, Entry, Alignment, SectionDomain, PageDomain, SectionPermission, PagePermission, AccessOutside, Size, One, Two, Four, Purpose, ToRead, ToWrite, ToFetch, Ruling, Allowed, PermissionDenied, DomainDenied, Outcome, Mapped, Failed, Access, Stale, Fails, Physical}
+use Rattle.model.specs.Types.{Registers, Tables, Operation, Kind, Read, Write, Root, Asid, Mode, All, Addr, Ctx, AddrCtx, Fetch, Domain, Entry, Alignment, SectionDomain, PageDomain, SectionPermission, PagePermission, AccessOutside, Size, One, Two, Four, Purpose, ToRead, ToWrite, ToFetch, Ruling, Allowed, PermissionDenied, DomainDenied, Outcome, Mapped, Failed, Access, Stale, Fails, Physical}
 use Rattle.model.proofs.BoolLaws.{push}
 use Rattle.model.proofs.Memory.{within-same, number-same, stored-same}
 use Rattle.model.proofs.Walk.{translation, walk-same}
@@ -120,25 +120,25 @@ decided-same y b x size a v r m =
     ∙ ap (λ z. cond b (refused 16, state r m) z) (granted-same y x size a v r m))
 
 -- the stale test of a word of a row
-stale-in : (u : Scope) (m t : List ℕ) (root n a : ℕ) → n ≡ rowOf t u →
-    staleWord (rowKind u) (wordAt t n (a / pageSize)) (walkPage m root (a / pageSize)) ≡ differs (kept u (trackWord t u (a / pageSize))) (walk m root a)
+stale-in : (w : ℕ) (u : Scope) (m t : List ℕ) (tables : Tables) (n a : ℕ) → n ≡ rowOf w t u →
+    staleWord (rowKind u) (wordAt w t n (a / pageSize)) (walkPage m tables (a / pageSize)) ≡ differs (kept u (trackWord w t u (a / pageSize))) (walk m (tables .root) a)
 unfolding trackWord
-stale-in u m t root n a e =
-    stale-same u (wordAt t n (a / pageSize)) (walkPage m root (a / pageSize)) (walk-range m root (a / pageSize))
-    ∙ ap₂ (λ k x. differs (kept u (getD t k 0)) x) (let q : n * rowSize + a / pageSize ≡ rowSize * rowOf t u + a / pageSize = rw (← e) (omega arith) in q) (walk-same m root a)
+stale-in w u m t tables n a e =
+    stale-same u (wordAt w t n (a / pageSize)) (walkPage m tables (a / pageSize)) (walk-range m tables (a / pageSize))
+    ∙ ap₂ (λ k x. differs (kept u (getD t k 0)) x) (ap (λ (k : ℕ). k * rowSize w + a / pageSize) e ∙ ap (λ (k : ℕ). k + a / pageSize) (mul-comm (rowOf w t u) (rowSize w))) (walk-same m tables a)
 
 -- the stale test of an access: by the row of the context, or by the global row
 stale-at : (r : Registers) (m t : List ℕ) (a : ℕ) →
-    stalePage t (r .context) (a / pageSize) (walkPage m (r .root) (a / pageSize)) ≡ stale t (r .context) (a / pageSize) (walk m (r .root) a)
+    stalePage oldWindow t (r .context) (a / pageSize) (walkPage m (tablesOf r) (a / pageSize)) ≡ stale oldWindow t (r .context) (a / pageSize) (walk m (r .root) a)
 unfolding stalePage stale
 stale-at r m t a =
-    either-stale (staleWord 0 (wordAt t (r .context) (a / pageSize)) x) (staleWord 1 (wordAt t (lastRow (length t)) (a / pageSize)) x)
+    either-stale (staleWord 0 (wordAt oldWindow t (r .context) (a / pageSize)) x) (staleWord 1 (wordAt oldWindow t (lastRow oldWindow (length t)) (a / pageSize)) x)
     ∙ ap₂ _||_
-    (stale-in (own (r .context)) m t (r .root) (r .context) a (unfold rowOf in refl))
-    (stale-in global m t (r .root) (lastRow (length t)) a (unfold rowOf contexts lastRow in refl))
+    (stale-in oldWindow (own (r .context)) m t (tablesOf r) (r .context) a (unfold rowOf in refl))
+    (stale-in oldWindow global m t (tablesOf r) (lastRow oldWindow (length t)) a (unfold rowOf contexts lastRow in refl))
   where
     x : Outcome
-    x = walkPage m (r .root) (a / pageSize)
+    x = walkPage m (tablesOf r) (a / pageSize)
 
     either-stale : (x y : Bool) → cond x true y ≡ (x || y)
     either-stale true y = refl
@@ -147,11 +147,11 @@ stale-at r m t a =
 -- an access in a state: fault 0x1, then 16, then what its translation gives
 access-same : (x : Purpose) (size : Size) (a v : ℕ) (r : Registers) (m t : List ℕ) →
     taken x size v (state r m) (accessAt r m t x size a)
-    ≡ cond (aligned a (bytesOf size)) (cond (stale t (r .context) (a / pageSize) (walk m (r .root) a)) (refused 16, state r m) (translated x a (bytesOf size) v (state r m) (walk m (r .root) a))) (fault 0x1, state r m)
+    ≡ cond (aligned a (bytesOf size)) (cond (stale oldWindow t (r .context) (a / pageSize) (walk m (r .root) a)) (refused 16, state r m) (translated x a (bytesOf size) v (state r m) (walk m (r .root) a))) (fault 0x1, state r m)
 unfolding accessAt
 access-same x size a v r m t =
-    decided-same (walkPage m (r .root) (a / pageSize)) (stalePage t (r .context) (a / pageSize) (walkPage m (r .root) (a / pageSize))) x size a v r m
-    ∙ ap₂ (λ b y. cond (aligned a (bytesOf size)) (cond b (refused 16, state r m) (translated x a (bytesOf size) v (state r m) y)) (fault 0x1, state r m)) (stale-at r m t a) (walk-same m (r .root) a)
+    decided-same (walkPage m (tablesOf r) (a / pageSize)) (stalePage oldWindow t (r .context) (a / pageSize) (walkPage m (tablesOf r) (a / pageSize))) x size a v r m
+    ∙ ap₂ (λ b y. cond (aligned a (bytesOf size)) (cond b (refused 16, state r m) (translated x a (bytesOf size) v (state r m) y)) (fault 0x1, state r m)) (stale-at r m t a) (walk-same m (tablesOf r) a)
 
 -- the size that a field names
 size-bytes : (b : ℕ) → isSize b ≡ true → bytesOf (sizeOf b) ≡ b
@@ -170,11 +170,11 @@ nested false y p q r = refl
 
 access-whole : (x : Purpose) (size : Size) (o : Operation) (r : Registers) (m t : List ℕ) → bytesOf size ≡ accessSize o →
     taken x size (o .c) (state r m) (accessAt r m t x size (o .a))
-    ≡ cond (aligned (o .a) (accessSize o) && stale t (r .context) (o .a / pageSize) (walk m (r .root) (o .a))) (refused 16, state r m) (access x o (state r m) (outcome (state r m)))
+    ≡ cond (aligned (o .a) (accessSize o) && stale oldWindow t (r .context) (o .a / pageSize) (walk m (r .root) (o .a))) (refused 16, state r m) (access x o (state r m) (outcome (state r m)))
 unfolding access outcome
 access-whole x size o r m t e =
     access-same x size (o .a) (o .c) r m t
-    ∙ rw e (nested (aligned (o .a) (accessSize o)) (stale t (r .context) (o .a / pageSize) (walk m (r .root) (o .a))) (refused 16, state r m) _ (fault 0x1, state r m))
+    ∙ rw e (nested (aligned (o .a) (accessSize o)) (stale oldWindow t (r .context) (o .a / pageSize) (walk m (r .root) (o .a))) (refused 16, state r m) _ (fault 0x1, state r m))
 
 -- ── Every operation ──
 

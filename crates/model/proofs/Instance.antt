@@ -15,13 +15,13 @@ use Rattle.tlb.specs.Machine.{Machine, Walk, entry, fault}
 use Rattle.tlb.specs.Chip.{Chip}
 use Rattle.tlb.specs.Tracker.{Tracker, Reply, done, refused as refusedBy}
 use Rattle.tlb.specs.Seen.{Seen, nothing, one, many}
-use Rattle.model.specs.Limits.{pageSize, rowSize}
+use Rattle.model.specs.Limits.{pageSize, oldWindow, rowSize}
 use Rattle.model.specs.Numbers.{Result, ok, fault as faulted, refused, shown}
 use Rattle.model.specs.reference.Rules.{Translation, found, failed, walk, State, fresh, aligned, accesses, accessSize, translated, access, effect, outcome, carriedOut, Scope, scopeOf, covers, flushes, Held, Places, heldFor, Move, move, orWalk, flushPlace, among, Kept, empty, one as only, several}
 use Rattle.model.specs.reference.Runs.{isRefused}
-use Rattle.model.specs.step.Machine.{After, stepped, started}
+use Rattle.model.specs.step.Machine.{After, tablesOf, stepped, started}
 use Rattle.model.specs.Invisible.{isAccess, alignedAccess}
-use Rattle.model.specs.Types.{Operation, Kind, Read, Write, Root, Asid, Mode, All, Addr, Ctx, AddrCtx, Fetch, Domain, Entry, Purpose, ToRead, ToWrite, ToFetch}
+use Rattle.model.specs.Types.{Setting, Operation, Kind, Read, Write, Root, Asid, Mode, All, Addr, Ctx, AddrCtx, Fetch, Domain, Entry, Purpose, ToRead, ToWrite, ToFetch}
 use Rattle.model.proofs.BoolLaws.{and-both}
 use Rattle.model.proofs.Walk.{translation, walk-same}
 
@@ -67,7 +67,7 @@ carryOf s o f = effect (o .kind) o s (λ a. ofWalk (f (a / pageSize)))
 
 abbrev pub tables : Machine
 tables = record {
-  Given = List ℕ × ℕ;
+  Given = List ℕ × Setting;
   State = State;
   Page = ℕ;
   Entry = Entry;
@@ -77,7 +77,7 @@ tables = record {
   Answer = Result;
   boot = λ g. fresh (g .0) (g .1);
   walk = walkOf;
-  inWindow = λ s page. ltb page rowSize;
+  inWindow = λ s page. ltb page (rowSize oldWindow);
   tag = λ s page e. (scopeOf (s .registers .context) e, page);
   serves = λ s page u. covers (u .0) (s .registers .context) && eqb (u .1) page;
   names = λ o u. flushes (o .kind) o (u .0) (u .1);
@@ -129,9 +129,9 @@ seenOf several = many
 pub outcome-page : (s : State) (a : ℕ) → outcome s (a / pageSize * pageSize) ≡ outcome s a
 unfolding outcome
 outcome-page s a =
-    sym (walk-same (s .memory) (s .registers .root) (a / pageSize * pageSize))
-    ∙ ap (λ n. translation (Rattle.model.specs.step.Walk.walkPage (s .memory) (s .registers .root) n)) first
-    ∙ walk-same (s .memory) (s .registers .root) a
+    sym (walk-same (s .memory) (tablesOf (s .registers)) (a / pageSize * pageSize))
+    ∙ ap (λ n. translation (Rattle.model.specs.step.Walk.walkPage (s .memory) (tablesOf (s .registers)) n)) first
+    ∙ walk-same (s .memory) (tablesOf (s .registers)) a
   where
     first : a / pageSize * pageSize / pageSize ≡ a / pageSize
     first = omega arith

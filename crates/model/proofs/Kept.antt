@@ -15,15 +15,15 @@ use Rattle.tlb.specs.Seen.{Seen, nothing, one, many, note, spared, Stale}
 use Rattle.tlb.specs.Laws.{Carries, Keeps}
 use Rattle.tlb.specs.Words.{addWord, differsFrom, Coding}
 use Rattle.tlb.proofs.WordLaws.{seen-added, stale-iff}
-use Rattle.model.specs.Limits.{pageSize, rowSize, addressLimit}
+use Rattle.model.specs.Limits.{pageSize, sectionSize, oldWindow, rowSize}
 use Rattle.model.specs.Numbers.{Result, ok, fault as faulted, refused, shown, refusalNumber}
 use Rattle.model.specs.reference.Rules.{Translation, found, failed, bits, walk, State, fresh, aligned, accesses, accessSize, outcome, carriedOut, Scope, own, global, scopeOf, covers, sameScope, suits, flushes, among, contexts, hasRow, Kept, empty, one as only, several, wordOf, entryOf, kept, same, addTo, noted, differs, notedIn, wordAfter, trackWord, stale, Given, startConditions, refuses16}
 use Rattle.model.specs.reference.Runs.{isRefused}
 use Rattle.model.specs.step.Walk.{walkPage}
 use Rattle.model.specs.step.Checks.{checks, firstFailing, addressFits}
-use Rattle.model.specs.step.Machine.{After, stepped, started}
+use Rattle.model.specs.step.Machine.{After, tablesOf, stepped, started}
 use Rattle.model.specs.Demands.{Call, conditionsOf, after, before, visible, Leaves}
-use Rattle.model.specs.Types.{Registers, Operation, Kind, Read, Write, Root, Asid, Mode, All, Addr, Ctx, AddrCtx, Fetch, Domain, Entry, Refusal, Check, Pass, Refuse, Outcome, Mapped, Failed}
+use Rattle.model.specs.Types.{Registers, Setting, Operation, Kind, Read, Write, Root, Asid, Mode, All, Addr, Ctx, AddrCtx, Fetch, Domain, Entry, Refusal, Check, Pass, Refuse, Outcome, Mapped, Failed}
 use Rattle.model.proofs.BoolLaws.{and-both}
 use Rattle.model.proofs.Walk.{translation, walk-same}
 use Rattle.model.proofs.Entries.{Fits, same-true, same-false, entry-discrete, decoded}
@@ -52,46 +52,46 @@ reply-done (refused n) a p = absurd (let z : _≡_ {A = Bool} true false = cc in
 pub not-given : (x : Call) → isRefused (shown (after x .answer)) ≡ false → (r : ℕ) → Given r (conditionsOf x) → ⊥
 not-given x p r g = not-refused (shown (after x .answer)) r p (exactly x r .1 g)
 
-pub start-not-given : (m t : List ℕ) (root : ℕ) → isRefused (shown (started m t root .answer)) ≡ false → (r : ℕ) → Given r (startConditions m t root) → ⊥
-start-not-given m t root p r g = not-refused (shown (started m t root .answer)) r p (start-exactly m t root r .1 g)
+pub start-not-given : (m t : List ℕ) (g : Setting) → isRefused (shown (started m t g .answer)) ≡ false → (r : ℕ) → Given r (startConditions m t g) → ⊥
+start-not-given m t g p r h = not-refused (shown (started m t g .answer)) r p (start-exactly m t g r .1 h)
 
 -- ── The checker carries out what the machine does ──
 
 abbrev pub Valid : State → List ℕ → Type 0
-Valid s t = s .registers .context < contexts t
+Valid s t = s .registers .context < contexts oldWindow t
 
-same-contexts : (t u : List ℕ) → length t ≡ length u → contexts t ≡ contexts u
+same-contexts : (w : ℕ) (t u : List ℕ) → length t ≡ length u → contexts w t ≡ contexts w u
 unfolding contexts
-same-contexts t u e = ap (λ n. n / rowSize - 1) e
+same-contexts w t u e = ap (λ n. n / rowSize w - 1) e
 
-pub same-has : (t v : List ℕ) → length t ≡ length v → (u : Scope) → hasRow t u ≡ hasRow v u
+pub same-has : (w : ℕ) (t v : List ℕ) → length t ≡ length v → (u : Scope) → hasRow w t u ≡ hasRow w v u
 unfolding hasRow
-same-has t v e (own c) = ap (ltb c) (same-contexts t v e)
-same-has t v e global = refl
+same-has w t v e (own c) = ap (ltb c) (same-contexts w t v e)
+same-has w t v e global = refl
 
-pub begins : (m t : List ℕ) (root : ℕ) → isRefused (shown (started m t root .answer)) ≡ false → stateOf (started m t root) ≡ fresh m root
-begins m t root p = ap (λ (x : Result × State). x .1) (start-plain m t root (start-not-given m t root p))
+pub begins : (m t : List ℕ) (g : Setting) → isRefused (shown (started m t g .answer)) ≡ false → stateOf (started m t g) ≡ fresh m g
+begins m t g p = ap (λ (x : Result × State). x .1) (start-plain m t g (start-not-given m t g p))
 
-valid-start : (m t : List ℕ) (root : ℕ) → isRefused (shown (started m t root .answer)) ≡ false → Valid (stateOf (started m t root)) (started m t root .track)
-valid-start m t root p =
-    subst (λ (s : State). s .registers .context < contexts (started m t root .track)) (sym (begins m t root p))
-    (unfold fresh in rw (same-contexts (started m t root .track) t (start-track-length m t root)) (go (begun m t root)))
+valid-start : (m t : List ℕ) (g : Setting) → isRefused (shown (started m t g .answer)) ≡ false → Valid (stateOf (started m t g)) (started m t g .track)
+valid-start m t g p =
+    subst (λ (s : State). s .registers .context < contexts oldWindow (started m t g .track)) (sym (begins m t g p))
+    (unfold fresh in rw (same-contexts oldWindow (started m t g .track) t (start-track-length m t g)) (go (begun m t g)))
   where
-    go : Begun (started m t root) m t root → 0 < contexts t
-    go (back n e) = absurd (not-refused (shown (started m t root .answer)) (refusalNumber n) p (ap (λ (z : After). shown (z .answer)) e))
+    go : Begun (started m t g) m t g → 0 < contexts oldWindow t
+    go (back n e) = absurd (not-refused (shown (started m t g .answer)) (refusalNumber n) p (ap (λ (z : After). shown (z .answer)) e))
     go (accepted a h e) = h
 
 valid-next : (s : State) (t : List ℕ) (o : Operation) → Valid s t → Valid (stateOf (callOf s t o)) (callOf s t o .track)
 valid-next s t o v =
-    rw (same-contexts (callOf s t o .track) t (track-length (callAt s t o))) (go (shown (callOf s t o .answer)) refl)
+    rw (same-contexts oldWindow (callOf s t o .track) t (track-length (callAt s t o))) (go (shown (callOf s t o .answer)) refl)
   where
-    keep : (r : ℕ) → shown (callOf s t o .answer) ≡ refused r → callOf s t o .registers .context < contexts t
+    keep : (r : ℕ) → shown (callOf s t o .answer) ≡ refused r → callOf s t o .registers .context < contexts oldWindow t
     keep r e = rw (unchanged (callAt s t o) r e .registers) v
 
-    pass : isRefused (shown (callOf s t o .answer)) ≡ false → callOf s t o .registers .context < contexts t
+    pass : isRefused (shown (callOf s t o .answer)) ≡ false → callOf s t o .registers .context < contexts oldWindow t
     pass p = call-passes (callAt s t o) (not-given (callAt s t o) p) .left
 
-    go : (x : Result) → shown (callOf s t o .answer) ≡ x → callOf s t o .registers .context < contexts t
+    go : (x : Result) → shown (callOf s t o .answer) ≡ x → callOf s t o .registers .context < contexts oldWindow t
     go (ok n) e = pass (ap isRefused e ∙ (unfold isRefused in refl))
     go (faulted n) e = pass (ap isRefused e ∙ (unfold isRefused in refl))
     go (refused r) e = keep r e
@@ -177,7 +177,7 @@ mapped u c (failed n) = none
 pub outcome-range : (s : State) (a : ℕ) (e : Entry) → outcome s a ≡ found e → Fits e
 unfolding outcome
 outcome-range s a e p =
-    go (walkPage (s .memory) (s .registers .root) (a / pageSize)) (walk-range (s .memory) (s .registers .root) (a / pageSize)) (walk-same (s .memory) (s .registers .root) a ∙ p)
+    go (walkPage (s .memory) (tablesOf (s .registers)) (a / pageSize)) (walk-range (s .memory) (tablesOf (s .registers)) (a / pageSize)) (walk-same (s .memory) (tablesOf (s .registers)) a ∙ p)
   where
     go : (x : Outcome) → InRange x → translation x ≡ found e → Fits e
     go (Mapped y) h q = subst Fits (let z : y ≡ e = cc in z) h
@@ -205,11 +205,19 @@ noted-seen u c (failed n) w h = unfold note in refl
 
 -- ── The set of a scope and a page ──
 
-unfoldable pub look : State → List ℕ → Scope × ℕ → Seen Entry
-look s t u = cond (hasRow t (u .0) && ltb (u .1) rowSize) (seenOf (kept (u .0) (trackWord t (u .0) (u .1)))) nothing
+-- with a window of W MiB
+unfoldable pub lookIn : ℕ → List ℕ → Scope × ℕ → Seen Entry
+lookIn W t u = cond (hasRow W t (u .0) && ltb (u .1) (rowSize W)) (seenOf (kept (u .0) (trackWord W t (u .0) (u .1)))) nothing
 
-unfoldable pub present : State → Scope × ℕ → Option Entry
-present s u = cond (ltb (u .1) rowSize) (mapped (u .0) (s .registers .context) (outcome s (u .1 * pageSize))) none
+unfoldable pub presentIn : ℕ → State → Scope × ℕ → Option Entry
+presentIn W s u = cond (ltb (u .1) (rowSize W)) (mapped (u .0) (s .registers .context) (outcome s (u .1 * pageSize))) none
+
+-- with the window of a state
+abbrev pub look : State → List ℕ → Scope × ℕ → Seen Entry
+look s t u = lookIn oldWindow t u
+
+abbrev pub present : State → Scope × ℕ → Option Entry
+present s u = presentIn oldWindow s u
 
 mapped-found : (u : Scope) (c : ℕ) (x : Translation) (e : Entry) → mapped u c x ≡ some e → (x ≡ found e) × (scopeOf c e ≡ u)
 mapped-found u c (found y) e p = go (sameScope u (scopeOf c y)) refl p
@@ -221,9 +229,9 @@ mapped-found u c (found y) e p = go (sameScope u (scopeOf c y)) refl p
     go false q r = absurd (none-some e r)
 mapped-found u c (failed n) e p = absurd (none-some e p)
 
-present-of : (s : State) (page : ℕ) (e : Entry) → ltb page rowSize ≡ true → walkOf s page ≡ entry e → present s (scopeOf (s .registers .context) e, page) ≡ some e
-unfolding present walkOf
-present-of s page e h w = rw h (go (outcome s (page * pageSize)) w)
+present-of : (W : ℕ) (s : State) (page : ℕ) (e : Entry) → ltb page (rowSize W) ≡ true → walkOf s page ≡ entry e → presentIn W s (scopeOf (s .registers .context) e, page) ≡ some e
+unfolding presentIn walkOf
+present-of W s page e h w = rw h (go (outcome s (page * pageSize)) w)
   where
     c : ℕ
     c = s .registers .context
@@ -234,37 +242,37 @@ present-of s page e h w = rw h (go (outcome s (page * pageSize)) w)
         ap (λ z. cond (sameScope (scopeOf c e) (scopeOf c z)) (some z) none) is ∙ ap (λ b. cond b (some e) none) (scope-self (scopeOf c e))
     go (failed n) p = absurd (let z : _≡_ {A = Bool} true false = cc in true≢false z)
 
-present-at : (s : State) (u : Scope × ℕ) (e : Entry) → present s u ≡ some e →
-    (page : ℕ) × (ltb page rowSize ≡ true) × (walkOf s page ≡ entry e) × (_≡_ {A = Scope × ℕ} (scopeOf (s .registers .context) e, page) u)
-unfolding present walkOf
-present-at s u e p = go (ltb (u .1) rowSize) refl p
+present-at : (W : ℕ) (s : State) (u : Scope × ℕ) (e : Entry) → presentIn W s u ≡ some e →
+    (page : ℕ) × (ltb page (rowSize W) ≡ true) × (walkOf s page ≡ entry e) × (_≡_ {A = Scope × ℕ} (scopeOf (s .registers .context) e, page) u)
+unfolding presentIn walkOf
+present-at W s u e p = go (ltb (u .1) (rowSize W)) refl p
   where
-    go : (y : Bool) → ltb (u .1) rowSize ≡ y → cond y (mapped (u .0) (s .registers .context) (outcome s (u .1 * pageSize))) none ≡ some e →
-        (page : ℕ) × (ltb page rowSize ≡ true) × (asWalk (outcome s (page * pageSize)) ≡ entry e) × (_≡_ {A = Scope × ℕ} (scopeOf (s .registers .context) e, page) u)
+    go : (y : Bool) → ltb (u .1) (rowSize W) ≡ y → cond y (mapped (u .0) (s .registers .context) (outcome s (u .1 * pageSize))) none ≡ some e →
+        (page : ℕ) × (ltb page (rowSize W) ≡ true) × (asWalk (outcome s (page * pageSize)) ≡ entry e) × (_≡_ {A = Scope × ℕ} (scopeOf (s .registers .context) e, page) u)
     go true h w =
         let z = mapped-found (u .0) (s .registers .context) (outcome s (u .1 * pageSize)) e w in
         (u .1, h, ap asWalk (z .0), λ i. (z .1 i, u .1))
     go false h w = absurd (none-some e w)
 
 -- the scope of what is loaded now has a row
-has-scope : (s : State) (t : List ℕ) (e : Entry) → Valid s t → hasRow t (scopeOf (s .registers .context) e) ≡ true
+has-scope : (W : ℕ) (s : State) (t : List ℕ) (e : Entry) → s .registers .context < contexts W t → hasRow W t (scopeOf (s .registers .context) e) ≡ true
 unfolding scopeOf
-has-scope s t e v = go (eqb (e .global) 1)
+has-scope W s t e v = go (eqb (e .global) 1)
   where
-    go : (b : Bool) → hasRow t (cond b global (own (s .registers .context))) ≡ true
+    go : (b : Bool) → hasRow W t (cond b global (own (s .registers .context))) ≡ true
     go true = unfold hasRow in refl
-    go false = unfold hasRow in lt-ltb (s .registers .context) (contexts t) v
+    go false = unfold hasRow in lt-ltb (s .registers .context) (contexts W t) v
 
 -- a set outside the track has no entry to note
-absent : (s : State) (t : List ℕ) (u : Scope) (p : ℕ) → Valid s t → (hasRow t u && ltb p rowSize) ≡ false → present s (u, p) ≡ none
-unfolding present
-absent s t u p v h = go (ltb p rowSize) refl
+absent : (W : ℕ) (s : State) (t : List ℕ) (u : Scope) (p : ℕ) → s .registers .context < contexts W t → (hasRow W t u && ltb p (rowSize W)) ≡ false → presentIn W s (u, p) ≡ none
+unfolding presentIn
+absent W s t u p v h = go (ltb p (rowSize W)) refl
   where
-    by : (x : Translation) → hasRow t u ≡ false → mapped u (s .registers .context) x ≡ none
+    by : (x : Translation) → hasRow W t u ≡ false → mapped u (s .registers .context) x ≡ none
     by (found e) q = at (sameScope u (scopeOf (s .registers .context) e)) refl
       where
         at : (b : Bool) → sameScope u (scopeOf (s .registers .context) e) ≡ b → cond b (some e) none ≡ none
-        at true r = absurd (true≢false (sym (has-scope s t e v) ∙ ap (hasRow t) (sym (same-scope u (scopeOf (s .registers .context) e) r)) ∙ q))
+        at true r = absurd (true≢false (sym (has-scope W s t e v) ∙ ap (hasRow W t) (sym (same-scope u (scopeOf (s .registers .context) e) r)) ∙ q))
         at false r = refl
     by (failed n) q = refl
 
@@ -272,14 +280,14 @@ absent s t u p v h = go (ltb p rowSize) refl
     and-left true q = q
     and-left false q = refl
 
-    go : (y : Bool) → ltb p rowSize ≡ y → cond y (mapped u (s .registers .context) (outcome s (p * pageSize))) none ≡ none
-    go true r = by (outcome s (p * pageSize)) (and-left (hasRow t u) (ap (_&&_ (hasRow t u)) (sym r) ∙ h))
+    go : (y : Bool) → ltb p (rowSize W) ≡ y → cond y (mapped u (s .registers .context) (outcome s (p * pageSize))) none ≡ none
+    go true r = by (outcome s (p * pageSize)) (and-left (hasRow W t u) (ap (_&&_ (hasRow W t u)) (sym r) ∙ h))
     go false r = refl
 
 -- noting a word notes its set
-noted-in-seen : (s : State) (u : Scope) (p w : ℕ) → ltb p rowSize ≡ true → seenOf (kept u (notedIn s u p w)) ≡ note entry-discrete (present s (u, p)) (seenOf (kept u w))
-unfolding notedIn present
-noted-in-seen s u p w h = rw h (noted-seen u (s .registers .context) (outcome s (p * pageSize)) w (λ e q. outcome-range s (p * pageSize) e q))
+noted-in-seen : (W : ℕ) (s : State) (u : Scope) (p w : ℕ) → ltb p (rowSize W) ≡ true → seenOf (kept u (notedIn s u p w)) ≡ note entry-discrete (presentIn W s (u, p)) (seenOf (kept u w))
+unfolding notedIn presentIn
+noted-in-seen W s u p w h = rw h (noted-seen u (s .registers .context) (outcome s (p * pageSize)) w (λ e q. outcome-range s (p * pageSize) e q))
 
 spared-seen : (u : Scope) (b : Bool) (w : ℕ) → seenOf (kept u (cond b 0 w)) ≡ spared b (seenOf (kept u w))
 unfolding spared
@@ -287,12 +295,12 @@ spared-seen u true w = unfold kept in refl
 spared-seen u false w = refl
 
 -- flushing a word, then noting it
-after-seen : (o : Operation) (s : State) (u : Scope) (p w : ℕ) → ltb p rowSize ≡ true →
-    seenOf (kept u (wordAfter o s u p w)) ≡ note entry-discrete (present s (u, p)) (spared (flushes (o .kind) o u p) (seenOf (kept u w)))
+after-seen : (W : ℕ) (o : Operation) (s : State) (u : Scope) (p w : ℕ) → ltb p (rowSize W) ≡ true →
+    seenOf (kept u (wordAfter o s u p w)) ≡ note entry-discrete (presentIn W s (u, p)) (spared (flushes (o .kind) o u p) (seenOf (kept u w)))
 unfolding wordAfter
-after-seen o s u p w h =
-    noted-in-seen s u p (cond (flushes (o .kind) o u p) 0 w) h
-    ∙ ap (note entry-discrete (present s (u, p))) (spared-seen u (flushes (o .kind) o u p) w)
+after-seen W o s u p w h =
+    noted-in-seen W s u p (cond (flushes (o .kind) o u p) 0 w) h
+    ∙ ap (note entry-discrete (presentIn W s (u, p))) (spared-seen u (flushes (o .kind) o u p) w)
 
 spared-nothing : (b : Bool) → spared {E = Entry} b nothing ≡ nothing
 unfolding spared
@@ -300,49 +308,55 @@ spared-nothing true = refl
 spared-nothing false = refl
 
 -- a set in the track, and one outside it
-module _ (s : State) (t : List ℕ) (u : Scope) (p : ℕ) where
-  look-in : (hasRow t u && ltb p rowSize) ≡ true → look s t (u, p) ≡ seenOf (kept u (trackWord t u p))
-  unfolding look
+module _ (W : ℕ) (t : List ℕ) (u : Scope) (p : ℕ) where
+  look-in : (hasRow W t u && ltb p (rowSize W)) ≡ true → lookIn W t (u, p) ≡ seenOf (kept u (trackWord W t u p))
+  unfolding lookIn
   look-in h = rw h
 
-  look-out : (hasRow t u && ltb p rowSize) ≡ false → look s t (u, p) ≡ nothing
-  unfolding look
+  look-out : (hasRow W t u && ltb p (rowSize W)) ≡ false → lookIn W t (u, p) ≡ nothing
+  unfolding lookIn
   look-out h = rw h
 
-look-start : (m t : List ℕ) (root : ℕ) → isRefused (shown (started m t root .answer)) ≡ false → (u : Scope × ℕ) →
-    look (stateOf (started m t root)) (started m t root .track) u ≡ note entry-discrete (present (stateOf (started m t root)) u) nothing
+look-start : (m t : List ℕ) (g : Setting) → isRefused (shown (started m t g .answer)) ≡ false → (u : Scope × ℕ) →
+    look (stateOf (started m t g)) (started m t g .track) u ≡ note entry-discrete (present (stateOf (started m t g)) u) nothing
 unfolding note
-look-start m t root acc u = go (hasRow (started m t root .track) (u .0) && ltb (u .1) rowSize) refl
+look-start m t g acc u = go (hasRow W (started m t g .track) (u .0) && ltb (u .1) (rowSize W)) refl
   where
+    W : ℕ
+    W = oldWindow
+
     s : State
-    s = stateOf (started m t root)
+    s = stateOf (started m t g)
 
     t′ : List ℕ
-    t′ = started m t root .track
+    t′ = started m t g .track
 
-    same-rows : hasRow t′ (u .0) ≡ hasRow t (u .0)
-    same-rows = same-has t′ t (start-track-length m t root) (u .0)
+    same-rows : hasRow W t′ (u .0) ≡ hasRow W t (u .0)
+    same-rows = same-has W t′ t (start-track-length m t g) (u .0)
 
-    inside : hasRow t′ (u .0) ≡ true → ltb (u .1) rowSize ≡ true → look s t′ u ≡ note entry-discrete (present s u) nothing
+    inside : hasRow W t′ (u .0) ≡ true → ltb (u .1) (rowSize W) ≡ true → lookIn W t′ u ≡ note entry-discrete (presentIn W s u) nothing
     inside a b =
-        look-in s t′ (u .0) (u .1) (ap₂ _&&_ a b)
-        ∙ ap (λ n. seenOf (kept (u .0) n)) (start-words m t root (start-not-given m t root acc) (u .0) (u .1) (sym same-rows ∙ a) (ltb-true (u .1) rowSize b))
-        ∙ ap (λ (z : State). seenOf (kept (u .0) (notedIn z (u .0) (u .1) 0))) (sym (begins m t root acc))
-        ∙ noted-in-seen s (u .0) (u .1) 0 b
-        ∙ ap (note entry-discrete (present s u)) (unfold kept in refl)
+        look-in W t′ (u .0) (u .1) (ap₂ _&&_ a b)
+        ∙ ap (λ n. seenOf (kept (u .0) n)) (start-words m t g (start-not-given m t g acc) (u .0) (u .1) (sym same-rows ∙ a) (ltb-true (u .1) (rowSize W) b))
+        ∙ ap (λ (z : State). seenOf (kept (u .0) (notedIn z (u .0) (u .1) 0))) (sym (begins m t g acc))
+        ∙ noted-in-seen W s (u .0) (u .1) 0 b
+        ∙ ap (note entry-discrete (presentIn W s u)) (unfold kept in refl)
 
-    go : (b : Bool) → (hasRow t′ (u .0) && ltb (u .1) rowSize) ≡ b → look s t′ u ≡ note entry-discrete (present s u) nothing
-    go true e = let q = and-both (hasRow t′ (u .0)) (ltb (u .1) rowSize) e in inside (q .0) (q .1)
+    go : (b : Bool) → (hasRow W t′ (u .0) && ltb (u .1) (rowSize W)) ≡ b → lookIn W t′ u ≡ note entry-discrete (presentIn W s u) nothing
+    go true e = let q = and-both (hasRow W t′ (u .0)) (ltb (u .1) (rowSize W)) e in inside (q .0) (q .1)
     go false e =
-        look-out s t′ (u .0) (u .1) e
-        ∙ ap (λ x. note entry-discrete x nothing) (sym (absent s t′ (u .0) (u .1) (valid-start m t root acc) e))
+        look-out W t′ (u .0) (u .1) e
+        ∙ ap (λ x. note entry-discrete x nothing) (sym (absent W s t′ (u .0) (u .1) (valid-start m t g acc) e))
         ∙ (unfold note in refl)
 
 look-next : (s : State) (t : List ℕ) (o : Operation) (a : Result) → Valid s t → replyOf (shown (callOf s t o .answer)) ≡ done a → (u : Scope × ℕ) →
     look (stateOf (callOf s t o)) (callOf s t o .track) u ≡ note entry-discrete (present (stateOf (callOf s t o)) u) (spared (flushes (o .kind) o (u .0) (u .1)) (look s t u))
 unfolding note
-look-next s t o a v d u = go (hasRow t (u .0) && ltb (u .1) rowSize) refl
+look-next s t o a v d u = go (hasRow W t (u .0) && ltb (u .1) (rowSize W)) refl
   where
+    W : ℕ
+    W = oldWindow
+
     x : Call
     x = callAt s t o
 
@@ -355,8 +369,8 @@ look-next s t o a v d u = go (hasRow t (u .0) && ltb (u .1) rowSize) refl
     t′ : List ℕ
     t′ = callOf s t o .track
 
-    same-rows : hasRow t′ (u .0) ≡ hasRow t (u .0)
-    same-rows = same-has t′ t (track-length (callAt s t o)) (u .0)
+    same-rows : hasRow W t′ (u .0) ≡ hasRow W t (u .0)
+    same-rows = same-has W t′ t (track-length (callAt s t o)) (u .0)
 
     left : carriedOut o s .1 ≡ s′
     left = ap (λ (z : Result × State). z .1) (sym (plain (callAt s t o) free))
@@ -364,22 +378,22 @@ look-next s t o a v d u = go (hasRow t (u .0) && ltb (u .1) rowSize) refl
     b : Bool
     b = flushes (o .kind) o (u .0) (u .1)
 
-    inside : hasRow t (u .0) ≡ true → ltb (u .1) rowSize ≡ true → look s′ t′ u ≡ note entry-discrete (present s′ u) (spared b (look s t u))
+    inside : hasRow W t (u .0) ≡ true → ltb (u .1) (rowSize W) ≡ true → lookIn W t′ u ≡ note entry-discrete (presentIn W s′ u) (spared b (lookIn W t u))
     inside e h =
-        look-in s′ t′ (u .0) (u .1) (ap₂ _&&_ (same-rows ∙ e) h)
-        ∙ ap (λ n. seenOf (kept (u .0) n)) (words (callAt s t o) free (u .0) (u .1) e (ltb-true (u .1) rowSize h))
-        ∙ ap (λ (z : State). seenOf (kept (u .0) (wordAfter o z (u .0) (u .1) (trackWord t (u .0) (u .1))))) left
-        ∙ after-seen o s′ (u .0) (u .1) (trackWord t (u .0) (u .1)) h
-        ∙ ap (λ y. note entry-discrete (present s′ u) (spared b y)) (sym (look-in s t (u .0) (u .1) (ap₂ _&&_ e h)))
+        look-in W t′ (u .0) (u .1) (ap₂ _&&_ (same-rows ∙ e) h)
+        ∙ ap (λ n. seenOf (kept (u .0) n)) (words (callAt s t o) free (u .0) (u .1) e (ltb-true (u .1) (rowSize W) h))
+        ∙ ap (λ (z : State). seenOf (kept (u .0) (wordAfter o z (u .0) (u .1) (trackWord W t (u .0) (u .1))))) left
+        ∙ after-seen W o s′ (u .0) (u .1) (trackWord W t (u .0) (u .1)) h
+        ∙ ap (λ y. note entry-discrete (presentIn W s′ u) (spared b y)) (sym (look-in W t (u .0) (u .1) (ap₂ _&&_ e h)))
 
-    go : (y : Bool) → (hasRow t (u .0) && ltb (u .1) rowSize) ≡ y → look s′ t′ u ≡ note entry-discrete (present s′ u) (spared b (look s t u))
-    go true e = let q = and-both (hasRow t (u .0)) (ltb (u .1) rowSize) e in inside (q .0) (q .1)
+    go : (y : Bool) → (hasRow W t (u .0) && ltb (u .1) (rowSize W)) ≡ y → lookIn W t′ u ≡ note entry-discrete (presentIn W s′ u) (spared b (lookIn W t u))
+    go true e = let q = and-both (hasRow W t (u .0)) (ltb (u .1) (rowSize W)) e in inside (q .0) (q .1)
     go false e =
-        let e′ : (hasRow t′ (u .0) && ltb (u .1) rowSize) ≡ false = ap (λ y. y && ltb (u .1) rowSize) same-rows ∙ e in
-        look-out s′ t′ (u .0) (u .1) e′
+        let e′ : (hasRow W t′ (u .0) && ltb (u .1) (rowSize W)) ≡ false = ap (λ y. y && ltb (u .1) (rowSize W)) same-rows ∙ e in
+        look-out W t′ (u .0) (u .1) e′
         ∙ sym (spared-nothing b)
-        ∙ ap (spared b) (sym (look-out s t (u .0) (u .1) e))
-        ∙ ap (λ y. note entry-discrete y (spared b (look s t u))) (sym (absent s′ t′ (u .0) (u .1) (valid-next s t o v) e′))
+        ∙ ap (spared b) (sym (look-out W t (u .0) (u .1) e))
+        ∙ ap (λ y. note entry-discrete y (spared b (lookIn W t u))) (sym (absent W s′ t′ (u .0) (u .1) (valid-next s t o v) e′))
 
 -- ── The stale test ──
 
@@ -436,19 +450,19 @@ differs-seen (only e) (failed n) = refl
 differs-seen several x = refl
 
 -- the page of an access that passed the checks is one of the window
-in-window : (k : Kind) (a : ℕ) → among k accesses ≡ true → addressFits k a ≡ true → a / pageSize < rowSize
-unfolding addressFits among
-in-window Read a p q = let h = ltb-true a addressLimit q in omega arith
-in-window Write a p q = let h = ltb-true a addressLimit q in omega arith
-in-window Root a p q = absurd (true≢false (sym p))
-in-window Asid a p q = absurd (true≢false (sym p))
-in-window Mode a p q = absurd (true≢false (sym p))
-in-window All a p q = absurd (true≢false (sym p))
-in-window Addr a p q = absurd (true≢false (sym p))
-in-window Ctx a p q = absurd (true≢false (sym p))
-in-window AddrCtx a p q = absurd (true≢false (sym p))
-in-window Fetch a p q = let h = ltb-true a addressLimit q in omega arith
-in-window Domain a p q = absurd (true≢false (sym p))
+in-window : (w : ℕ) (k : Kind) (a : ℕ) → among k accesses ≡ true → addressFits w k a ≡ true → a / pageSize < rowSize w
+unfolding addressFits among rowSize
+in-window w Read a p q = let h = ltb-true (a / sectionSize) w q in omega arith
+in-window w Write a p q = let h = ltb-true (a / sectionSize) w q in omega arith
+in-window w Root a p q = absurd (true≢false (sym p))
+in-window w Asid a p q = absurd (true≢false (sym p))
+in-window w Mode a p q = absurd (true≢false (sym p))
+in-window w All a p q = absurd (true≢false (sym p))
+in-window w Addr a p q = absurd (true≢false (sym p))
+in-window w Ctx a p q = absurd (true≢false (sym p))
+in-window w AddrCtx a p q = absurd (true≢false (sym p))
+in-window w Fetch a p q = let h = ltb-true (a / sectionSize) w q in omega arith
+in-window w Domain a p q = absurd (true≢false (sym p))
 
 record Paged (o : Operation) (k : ℕ) : Type 0 where
   kinds : among (o .kind) accesses ≡ true
@@ -466,7 +480,7 @@ paged o k p = go (among (o .kind) accesses) (aligned (o .a) (accessSize o)) refl
 
 -- whether the set of a scope and a page has an entry other than the present outcome, by its word
 abbrev other : Scope → State → List ℕ → ℕ → Bool
-other u s t k = differsFrom wordOf same (seenOf (kept u (trackWord t u k))) (walkOf s k)
+other u s t k = differsFrom wordOf same (seenOf (kept u (trackWord oldWindow t u k))) (walkOf s k)
 
 -- the condition of 16, of an access
 refuses16-is : (s : State) (t : List ℕ) (o : Operation) (k : ℕ) → Paged o k →
@@ -480,10 +494,10 @@ refuses16-is s t o k g =
     present-walk : walk (s .memory) (s .registers .root) (o .a) ≡ outcome s (o .a / pageSize * pageSize)
     present-walk = unfold outcome in sym (outcome-page s (o .a))
 
-    by : (u : Scope) → differs (kept u (trackWord t u (o .a / pageSize))) (walk (s .memory) (s .registers .root) (o .a)) ≡ other u s t (o .a / pageSize)
+    by : (u : Scope) → differs (kept u (trackWord oldWindow t u (o .a / pageSize))) (walk (s .memory) (s .registers .root) (o .a)) ≡ other u s t (o .a / pageSize)
     by u = unfold walkOf in
-        (differs-seen (kept u (trackWord t u (o .a / pageSize))) (walk (s .memory) (s .registers .root) (o .a))
-        ∙ ap (λ x. differsFrom wordOf same (seenOf (kept u (trackWord t u (o .a / pageSize)))) (asWalk x)) present-walk)
+        (differs-seen (kept u (trackWord oldWindow t u (o .a / pageSize))) (walk (s .memory) (s .registers .root) (o .a))
+        ∙ ap (λ x. differsFrom wordOf same (seenOf (kept u (trackWord oldWindow t u (o .a / pageSize)))) (asWalk x)) present-walk)
 
 -- a set that serves a page in the current context has an entry other than the present outcome
 abbrev Serving : State → List ℕ → ℕ → Type 0
@@ -507,17 +521,17 @@ stale-at s t o k p h = (to, from)
     pass = passes-checks (callAt s t o) by-number
 
     -- the rows that the context uses are in the track
-    has : (u : Scope) → covers u c ≡ true → hasRow t u ≡ true
-    has (own d) e = unfold hasRow in lt-ltb d (contexts t) (rw (eqb-true d c (unfold covers in e)) (passed-call (callAt s t o) pass .given))
+    has : (u : Scope) → covers u c ≡ true → hasRow oldWindow t u ≡ true
+    has (own d) e = unfold hasRow in lt-ltb d (contexts oldWindow t) (rw (eqb-true d c (unfold covers in e)) (passed-call (callAt s t o) pass .given))
     has global e = unfold hasRow in refl
 
-    tested : (u : Scope) → covers u c ≡ true → look s t (u, k) ≡ seenOf (kept u (trackWord t u k))
+    tested : (u : Scope) → covers u c ≡ true → look s t (u, k) ≡ seenOf (kept u (trackWord oldWindow t u k))
     tested u e =
-        let window : o .a / pageSize < rowSize = in-window (o .kind) (o .a) (g .kinds) (unfold Hold checks in passed (checksOf (callAt s t o)) pass .1 .1 .1 .0) in
-        look-in s t u k (ap₂ _&&_ (has u e) (lt-ltb k rowSize (rw (← g .page-is) window)))
+        let window : o .a / pageSize < rowSize oldWindow = in-window oldWindow (o .kind) (o .a) (g .kinds) (unfold Hold checks in passed (checksOf (callAt s t o)) pass .1 .1 .1 .0) in
+        look-in oldWindow t u k (ap₂ _&&_ (has u e) (lt-ltb k (rowSize oldWindow) (rw (← g .page-is) window)))
 
-    law : (u : Scope) → (other u s t k ≡ true) ↔ Stale (seenOf (kept u (trackWord t u k))) (walkOf s k)
-    law u = stale-iff wordOf same (λ w. seenOf (kept u w)) (Suiting u) (coding u) entry-discrete (seenOf (kept u (trackWord t u k))) (walkOf s k)
+    law : (u : Scope) → (other u s t k ≡ true) ↔ Stale (seenOf (kept u (trackWord oldWindow t u k))) (walkOf s k)
+    law u = stale-iff wordOf same (λ w. seenOf (kept u w)) (Suiting u) (coding u) entry-discrete (seenOf (kept u (trackWord oldWindow t u k))) (walkOf s k)
 
     by-row : (u : Scope) → covers u c ≡ true → other u s t k ≡ true → Serving s t k
     by-row u e q =
@@ -546,7 +560,7 @@ stale-at s t o k p h = (to, from)
     from y =
         let b = and-both (covers (y .0 .0) c) (eqb (y .0 .1) k) (y .1) in
         let u-is : y .0 ≡ (y .0 .0, k) = λ i. (y .0 .0, eqb-true (y .0 .1) k (b .1) i) in
-        let z : Stale (seenOf (kept (y .0 .0) (trackWord t (y .0 .0) k))) (walkOf s k) =
+        let z : Stale (seenOf (kept (y .0 .0) (trackWord oldWindow t (y .0 .0) k))) (walkOf s k) =
         subst (λ (v : Seen Entry). Stale v (walkOf s k)) (ap (look s t) u-is ∙ tested (y .0 .0) (b .0)) (y .2) in
         ap replyOf (given-16 (callAt s t o) pass .1 (refuses16-is s t o k g ∙ one-of (y .0 .0) (b .0) (law (y .0 .0) .1 z)))
 
@@ -556,8 +570,8 @@ keeps = record {
   decide = entry-discrete;
   look = look;
   present = present;
-  presentOf = λ s t page e v h w. present-of s page e h w;
-  presentAt = λ s t u e v p. present-at s u e p;
+  presentOf = λ s t page e v h w. present-of oldWindow s page e h w;
+  presentAt = λ s t u e v p. present-at oldWindow s u e p;
   lookStart = λ g t p u. look-start (g .0) t (g .1) p u;
   lookNext = look-next;
   staleIff = λ s t o k v p h. stale-at s t o k p h;

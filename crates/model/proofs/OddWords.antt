@@ -6,7 +6,7 @@ use mathlib.Core.List.{List}
 use native.Mathlib.Omega.{arith}
 use lib.Dec.{eqb}
 use borrow.Author.Tests.{eqb-true, ne-eqb}
-use Rattle.model.specs.Limits.{pageSize, rowSize}
+use Rattle.model.specs.Limits.{pageSize, oldWindow, rowSize}
 use Rattle.model.specs.reference.Rules.{Translation, found, failed, bits, State, carriedOut, outcome, Scope, own, global, scopeOf, covers, sameScope, flushes, Kept, empty, one, several, wordOf, entryOf, suits, kept, addTo, noted, differs, notedIn, wordAfter, trackWord, stale, hasRow, conditions, Given}
 use Rattle.model.specs.Demands.{Call, conditionsOf, after, before, OddWords}
 use Rattle.model.specs.Types.{Entry}
@@ -35,33 +35,33 @@ noted-in-stays : (s : State) (u : Scope) (p w : ℕ) → kept u w ≡ several �
 unfolding notedIn
 noted-in-stays s u p w k = noted-stays u (s .registers .context) (outcome s (p * pageSize)) w k
 
-stays : (x : Call) → ((r : ℕ) → Given r (conditionsOf x) → ⊥) → (u : Scope) (p : ℕ) → hasRow (x .track) u ≡ true → p < rowSize →
-    kept u (trackWord (x .track) u p) ≡ several → flushes (x .operation .kind) (x .operation) u p ≡ false →
-    trackWord (after x .track) u p ≡ trackWord (x .track) u p
+stays : (x : Call) → ((r : ℕ) → Given r (conditionsOf x) → ⊥) → (u : Scope) (p : ℕ) → hasRow oldWindow (x .track) u ≡ true → p < rowSize oldWindow →
+    kept u (trackWord oldWindow (x .track) u p) ≡ several → flushes (x .operation .kind) (x .operation) u p ≡ false →
+    trackWord oldWindow (after x .track) u p ≡ trackWord oldWindow (x .track) u p
 unfolding wordAfter
 stays x h u p d q k f =
     words x h u p d q
-    ∙ ap (λ b. notedIn (carriedOut (x .operation) (before x) .1) u p (cond b 0 (trackWord (x .track) u p))) f
-    ∙ noted-in-stays (carriedOut (x .operation) (before x) .1) u p (trackWord (x .track) u p) k
+    ∙ ap (λ b. notedIn (carriedOut (x .operation) (before x) .1) u p (cond b 0 (trackWord oldWindow (x .track) u p))) f
+    ∙ noted-in-stays (carriedOut (x .operation) (before x) .1) u p (trackWord oldWindow (x .track) u p) k
 
-several-stale : (t : List ℕ) (u : Scope) (c p : ℕ) (y : Translation) → covers u c ≡ true → kept u (trackWord t u p) ≡ several → stale t c p y ≡ true
+several-stale : (W : ℕ) (t : List ℕ) (u : Scope) (c p : ℕ) (y : Translation) → covers u c ≡ true → kept u (trackWord W t u p) ≡ several → stale W t c p y ≡ true
 unfolding stale differs covers
-several-stale t (own d) c p y e k =
-    let here : kept (own c) (trackWord t (own c) p) ≡ several = ap (λ n. kept (own n) (trackWord t (own n) p)) (sym (eqb-true d c e)) ∙ k in
+several-stale W t (own d) c p y e k =
+    let here : kept (own c) (trackWord W t (own c) p) ≡ several = ap (λ n. kept (own n) (trackWord W t (own n) p)) (sym (eqb-true d c e)) ∙ k in
     rw here
-several-stale t global c p y e k = rw k (or-true (differs (kept (own c) (trackWord t (own c) p)) y))
+several-stale W t global c p y e k = rw k (or-true (differs (kept (own c) (trackWord W t (own c) p)) y))
   where
     or-true : (x : Bool) → (x || true) ≡ true
     or-true true = refl
     or-true false = refl
 
-goes : (x : Call) → ((r : ℕ) → Given r (conditionsOf x) → ⊥) → (u : Scope) (p : ℕ) → hasRow (x .track) u ≡ true → p < rowSize →
+goes : (x : Call) → ((r : ℕ) → Given r (conditionsOf x) → ⊥) → (u : Scope) (p : ℕ) → hasRow oldWindow (x .track) u ≡ true → p < rowSize oldWindow →
     flushes (x .operation .kind) (x .operation) u p ≡ true →
-    trackWord (after x .track) u p ≡ notedIn (carriedOut (x .operation) (before x) .1) u p 0
+    trackWord oldWindow (after x .track) u p ≡ notedIn (carriedOut (x .operation) (before x) .1) u p 0
 unfolding wordAfter
 goes x h u p d q f =
     words x h u p d q
-    ∙ ap (λ b. notedIn (carriedOut (x .operation) (before x) .1) u p (cond b 0 (trackWord (x .track) u p))) f
+    ∙ ap (λ b. notedIn (carriedOut (x .operation) (before x) .1) u p (cond b 0 (trackWord oldWindow (x .track) u p))) f
 
 pub odd-words : OddWords
 odd-words = record { counts = counts; stays = stays; isStale = several-stale; goes = goes }

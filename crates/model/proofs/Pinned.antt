@@ -12,7 +12,7 @@ use lib.Seq.{getD-set-same, getD-set-other, set-out}
 use borrow.Author.Tests.{eqb-true, eqb-false, eq-eqb, ne-eqb, lt-ltb}
 use Rattle.tlb.specs.Places.{Within, NoClash, Apart}
 use Rattle.tlb.proofs.PlaceLaws.{none-some, some-same, apart-none, apart-dropped, apart-put, apart-flushed}
-use Rattle.model.specs.Limits.{pageSize, rowSize}
+use Rattle.model.specs.Limits.{pageSize, oldWindow, rowSize}
 use Rattle.model.specs.Numbers.{Result, fault, shown}
 use Rattle.model.specs.reference.Rules.{Translation, found, failed, State, fresh, aligned, accesses, accessSize, access, translated, effect, outcome, among, Scope, own, global, covers, Held, Places, heldScope, matches, heldFor, meet, clash, anyClash, Move, drop, load, isFree, putIn, move, moves, orWalk, chipOutcome, flushPlace, chipStep}
 use Rattle.model.specs.reference.Runs.{last, Moment, chipStart, chipNext, chipRun, chipSeen, seen, isRefused, Holds}
@@ -124,7 +124,7 @@ none-clashes x (some k ∷ ps) q = go (clash x k) refl (none-clashes x ps (λ h 
 apart-moved : (s : State) (ps : Places) (m : Move) → Apart clash ps → Apart clash (move s ps m)
 unfolding move
 apart-moved s ps (drop i) k = apart-dropped clash i ps k
-apart-moved s ps (load i page) k = go (isFree (getD ps i none)) (ltb page rowSize) refl
+apart-moved s ps (load i page) k = go (isFree (getD ps i none)) (ltb page (rowSize oldWindow)) refl
   where
     unless : (e : Entry) (b : Bool) → anyClash (held (s .registers .context) page e) ps ≡ b → getD ps i none ≡ none → Apart clash (cond b ps (set ps i (some (held (s .registers .context) page e))))
     unless e true q f = k
@@ -199,14 +199,14 @@ held-used n s xs first script now a h y m =
 put-in : (x : Held) (i : ℕ) (ps : Places) → i < length ps → Within x (set ps i (some x))
 put-in x i ps h = at-within (set ps i (some x)) i x (getD-set-same ps i (some x) none h)
 
-can-load : (s : State) (ps : Places) (i page : ℕ) (e : Entry) → i < length ps → getD ps i none ≡ none → page < rowSize →
+can-load : (s : State) (ps : Places) (i page : ℕ) (e : Entry) → i < length ps → getD ps i none ≡ none → page < rowSize oldWindow →
     outcome s (page * pageSize) ≡ found e →
     ((h : Held) (c p : ℕ) → Holds h ps → matches h c p ≡ true → matches (loadedNow s page e) c p ≡ true → ⊥) →
     Holds (loadedNow s page e) (move s ps (load i page))
 unfolding move isFree putIn
 can-load s ps i page e l f w o n =
     within-holds (loadedNow s page e) (move s ps (load i page))
-    (rw (f, lt-ltb page rowSize w, o, none-clashes (loadedNow s page e) ps apart) (put-in (loadedNow s page e) i ps l))
+    (rw (f, lt-ltb page (rowSize oldWindow) w, o, none-clashes (loadedNow s page e) ps apart) (put-in (loadedNow s page e) i ps l))
   where
     apart : (h : Held) → Within h ps → clash (loadedNow s page e) h ≡ true → ⊥
     apart h y c = let z = clash-matching (loadedNow s page e) h c in n h (z .0) page (within-holds h ps y) (z .2) (z .1)
@@ -229,7 +229,7 @@ drops-only s ps i j ne = getD-set-other ps i j none none ne
 size-moved : (n : ℕ) (s : State) (ps : Places) (m : Move) → length ps ≡ n → length (move s ps m) ≡ n
 unfolding move
 size-moved n s ps (drop i) e = length-set ps i none ∙ e
-size-moved n s ps (load i page) e = go (isFree (getD ps i none) && ltb page rowSize)
+size-moved n s ps (load i page) e = go (isFree (getD ps i none) && ltb page (rowSize oldWindow))
   where
     unless : (h : Held) (b : Bool) → length (cond b ps (set ps i (some h))) ≡ n
     unless h true = e

@@ -5,17 +5,18 @@ use mathlib.Core.Bool.{Bool, true, false, cond, not}
 use mathlib.Core.List.{List, [], _∷_}
 use mathlib.Core.Option.{Option, none, some}
 use native.Mathlib.Omega.{arith}
-use lib.Dec.{eqb, leb, ltb}
+use lib.Dec.{eqb, leb}
 use lib.ListN.{length}
-use Rattle.model.specs.Limits.{pageSize, addressLimit, rootAlignment, memoryUnit, memoryMost}
+use Rattle.model.specs.Limits.{pageSize, oldSplit, oldWindow, memoryUnit, memoryMost}
 use Rattle.model.specs.Numbers.{faultNumber}
-use Rattle.model.specs.reference.Rules.{among, wrongMemory, wrongRoot, refuses8, walkConditions, Given, walk, translationNumber, refusedWalk}
-use Rattle.model.specs.step.Checks.{memoryFits, rootFits}
+use Rattle.model.specs.reference.Rules.{among, wrongMemory, refuses8, walkConditions, Given, walk, translationNumber, refusedWalk}
+use Rattle.model.specs.step.Checks.{memoryFits, rootFits, inWindow}
 use Rattle.model.specs.step.Walk.{walkPage}
 use Rattle.model.specs.step.WalkAnswer.{outcomeNumber, walkAnswer}
 use Rattle.model.specs.Demands.{SingleWalk}
 use Rattle.model.specs.Types.{Fault, Alignment, FirstUnmapped, SecondUnmapped, SectionDomain, PageDomain, SectionPermission, PagePermission, FirstOutside, SecondOutside, AccessOutside, Outcome, Mapped, Failed}
-use Rattle.model.proofs.BoolLaws.{three-and, not-ltb}
+use Rattle.model.proofs.BoolLaws.{three-and}
+use Rattle.model.proofs.Checks.{window-test, root-test}
 use Rattle.model.proofs.Walk.{translation, walk-same}
 use Rattle.model.proofs.Words.{InRange, word-same, walk-range}
 use Rattle.model.proofs.Calls.{firstHolding, given-first, first-given, none-some}
@@ -51,11 +52,11 @@ outcome-small (Failed f) = omega (arith, fault-small f)
 module _ (m : List ℕ) (root a : ℕ) where
   -- the outcome of the walk, as a number
   here : ℕ
-  here = outcomeNumber (walkPage m root (a / pageSize))
+  here = outcomeNumber (walkPage m (record { root = root }) (a / pageSize))
 
   here-same : here ≡ translationNumber (walk m root a)
   unfolding here
-  here-same = outcome-same (walkPage m root (a / pageSize)) (walk-range m root (a / pageSize)) ∙ ap translationNumber (walk-same m root a)
+  here-same = outcome-same (walkPage m (record { root = root }) (a / pageSize)) (walk-range m (record { root = root }) (a / pageSize)) ∙ ap translationNumber (walk-same m (record { root = root }) a)
 
   -- the three tests are the three conditions
   by-tests : (x y z : Bool) → cond x (cond y (cond z here (refusedWalk 8)) (refusedWalk 10)) (refusedWalk 13)
@@ -66,24 +67,24 @@ module _ (m : List ℕ) (root a : ℕ) where
   by-tests true false z = refl
   by-tests false y z = refl
 
-  tests-same : ((13, not (memoryFits (length m))) ∷ (10, not (rootFits root)) ∷ (8, not (ltb a addressLimit)) ∷ []) ≡ walkConditions m root a
-  unfolding walkConditions memoryFits rootFits refuses8 among
+  tests-same : ((13, not (memoryFits (length m))) ∷ (10, not (rootFits oldSplit root)) ∷ (8, not (inWindow oldWindow a)) ∷ []) ≡ walkConditions m root a
+  unfolding walkConditions memoryFits refuses8 among
   tests-same = λ i.
       (13, not (three-and (eqb (length m % memoryUnit) 0) (leb memoryUnit (length m)) (leb (length m) memoryMost) i))
-      ∷ (10, wrongRoot root)
-      ∷ (8, not-ltb a addressLimit i)
+      ∷ (10, root-test oldSplit root i)
+      ∷ (8, window-test oldWindow a i)
       ∷ []
 
   answer-by : walkAnswer m root a ≡ numberBy (firstHolding (walkConditions m root a)) here
   unfolding walkAnswer refusedWalk here
   answer-by =
-      by-tests (memoryFits (length m)) (rootFits root) (ltb a addressLimit)
+      by-tests (memoryFits (length m)) (rootFits oldSplit root) (inWindow oldWindow a)
       ∙ ap (λ (xs : List (ℕ × Bool)). numberBy (firstHolding xs) here) tests-same
 
   refuses : (r : ℕ) (x : Option ℕ) → numberBy x here ≡ refusedWalk r → x ≡ some r
   unfolding refusedWalk here
   refuses r (some s) e = ap some (omega (arith, e))
-  refuses r none e = absurd (let z : ⊥ = omega (arith, e, outcome-small (walkPage m root (a / pageSize))) in z)
+  refuses r none e = absurd (let z : ⊥ = omega (arith, e, outcome-small (walkPage m (record { root = root }) (a / pageSize))) in z)
 
   given : (r : ℕ) → (walkAnswer m root a ≡ refusedWalk r → Given r (walkConditions m root a)) × (Given r (walkConditions m root a) → walkAnswer m root a ≡ refusedWalk r)
   given r = (

@@ -140,15 +140,15 @@ start-held n s first = moves-same n s (replicate (suc n) none) first
 
 -- ── The first half ──
 
-pub same-begins : (x : Session) → Accepted checker x → stateOf (begun checker x) ≡ fresh (x .image) (x .root)
-same-begins x acc = begins (x .image) (x .track) (x .root) acc
+pub same-begins : (x : Session) → Accepted checker x → stateOf (begun checker x) ≡ fresh (x .image) (x .setting)
+same-begins x acc = begins (x .image) (x .track) (x .setting) acc
 
 same-plain : (x : Session) → Accepted checker x → plainRunOf checker x ≡ map seen (checkerRunOf checker x)
 unfolding movesOf
 same-plain x acc =
-    sym (plain-trace (fresh (x .image) (x .root)) (toldOf checker x))
-    ∙ ap (λ l. trace tables (plain tables) (fresh (x .image) (x .root)) tt l (λ i. [])) (sym (told-same (begun checker x) (x .operations)))
-    ∙ agrees tables theory carries (plain tables) (plain-sound tables theory carries) (x .image, x .root) (x .track) acc (x .operations) [] (λ i. [])
+    sym (plain-trace (fresh (x .image) (x .setting)) (toldOf checker x))
+    ∙ ap (λ l. trace tables (plain tables) (fresh (x .image) (x .setting)) tt l (λ i. [])) (sym (told-same (begun checker x) (x .operations)))
+    ∙ agrees tables theory carries (plain tables) (plain-sound tables theory carries) (x .image, x .setting) (x .track) acc (x .operations) [] (λ i. [])
     ∙ own-same (begun checker x) (x .operations)
 
 pub same-chip : (x : Session) → Accepted checker x → (n : ℕ) (first : List Move) (script : ℕ → List Move) →
@@ -156,8 +156,8 @@ pub same-chip : (x : Session) → Accepted checker x → (n : ℕ) (first : List
 unfolding chipStart
 same-chip x acc n first script =
     sym (chip-trace n (chipStartOf x (suc n) first) (toldOf checker x) script)
-    ∙ ap₂ (λ (h : Places) l. trace tables (tlbOf n) (chipStartOf x (suc n) first .state) h l script) (sym (start-held n (fresh (x .image) (x .root)) first)) (sym (told-same (begun checker x) (x .operations)))
-    ∙ agrees tables theory carries (tlbOf n) (tlb-sound tables theory carries 16 keeps (tlbOf n) HoldsIn (tlb-laws n)) (x .image, x .root) (x .track) acc (x .operations) first script
+    ∙ ap₂ (λ (h : Places) l. trace tables (tlbOf n) (chipStartOf x (suc n) first .state) h l script) (sym (start-held n (fresh (x .image) (x .setting)) first)) (sym (told-same (begun checker x) (x .operations)))
+    ∙ agrees tables theory carries (tlbOf n) (tlb-sound tables theory carries 16 keeps (tlbOf n) HoldsIn (tlb-laws n)) (x .image, x .setting) (x .track) acc (x .operations) first script
     ∙ own-same (begun checker x) (x .operations)
 
 pub same : Same checker
@@ -205,11 +205,11 @@ reply-16 (refused n) r p = ap refused (let z : n ≡ r = cc in z)
 
 -- what a chip holds at the end, in the theory's words and in the reference's
 end-held : (x : Session) (n : ℕ) (first : List Move) (script : ℕ → List Move) →
-    heldAtEnd tables (tlbOf n) (fresh (x .image) (x .root)) (movesOf tables (tlbOf n) (fresh (x .image) (x .root)) (replicate (suc n) none) first) (toldOf checker x) script
+    heldAtEnd tables (tlbOf n) (fresh (x .image) (x .setting)) (movesOf tables (tlbOf n) (fresh (x .image) (x .setting)) (replicate (suc n) none) first) (toldOf checker x) script
     ≡ last (chipStartOf x (suc n) first) (chipRunOf checker x (suc n) first script) .held
 unfolding chipStart
 end-held x n first script =
-    ap (λ (h : Places). heldAtEnd tables (tlbOf n) (fresh (x .image) (x .root)) h (toldOf checker x) script) (start-held n (fresh (x .image) (x .root)) first)
+    ap (λ (h : Places). heldAtEnd tables (tlbOf n) (fresh (x .image) (x .setting)) h (toldOf checker x) script) (start-held n (fresh (x .image) (x .setting)) first)
     ∙ chip-end n (chipStartOf x (suc n) first) (toldOf checker x) script
 
 module _ (x : Session) (acc : Accepted checker x) (o : Operation) where
@@ -221,7 +221,7 @@ module _ (x : Session) (acc : Accepted checker x) (o : Operation) where
 
   -- in the theory's words
   abbrev Can : ℕ → Type 0
-  Can n = CanDiffer tables (tlbOf n) HoldsIn (x .image, x .root) (toldOf checker x) s₁ page
+  Can n = CanDiffer tables (tlbOf n) HoldsIn (x .image, x .setting) (toldOf checker x) s₁ page
 
   page-walk : (e : Entry) → outcome (plainEnd checker x) (o .a) ≡ found e → walkOf s₁ page ≡ entry e
   unfolding walkOf
@@ -276,14 +276,14 @@ module _ (x : Session) (acc : Accepted checker x) (o : Operation) where
   abbrev Claim : State → List ℕ → List (Operation × Bool) → Type 0
   Claim s t l =
       ((r : ℕ) → replyOf (shown (callOf s t o .answer)) ≡ refusedBy r → r ≡ 16) →
-      (replyOf (shown (callOf s t o .answer)) ≡ refusedBy 16) ↔ ((n : ℕ) × CanDiffer tables (tlbOf n) HoldsIn (x .image, x .root) l s page)
+      (replyOf (shown (callOf s t o .answer)) ≡ refusedBy 16) ↔ ((n : ℕ) × CanDiffer tables (tlbOf n) HoldsIn (x .image, x .setting) l s page)
 
   -- the theory's second half, of the state and the track at the end
   in-theory : alignedAccess o ≡ true → ((r : ℕ) → shown (next checker o (atEnd checker x) .answer) ≡ refused r → r ≡ 16) →
       (replyOf (shown (next checker o (atEnd checker x) .answer)) ≡ refusedBy 16) ↔ ((n : ℕ) × Can n)
   in-theory p h =
       subst₃ Claim (end-state (begun checker x) (x .operations)) (end-track (begun checker x) (x .operations)) (told-same (begun checker x) (x .operations))
-      (λ q. exact tables theory carries 16 keeps tlbOf (λ n. HoldsIn) tlb-laws (x .image, x .root) (x .track) acc (x .operations) o page (has-page o p) q)
+      (λ q. exact tables theory carries 16 keeps tlbOf (λ n. HoldsIn) tlb-laws (x .image, x .setting) (x .track) acc (x .operations) o page (has-page o p) q)
       (λ r q. h r (reply-16 (shown (next checker o (atEnd checker x) .answer)) r q))
 
   stale : alignedAccess o ≡ true → ((r : ℕ) → shown (next checker o (atEnd checker x) .answer) ≡ refused r → r ≡ 16) →

@@ -11,7 +11,7 @@ use Rattle.model.specs.Numbers.{faultNumber}
 use Rattle.model.specs.reference.Rules.{Translation, found, failed, inMemory, value, bits, descriptor, globalBy, domainOf, section, largePage, smallPage, pageWord, tableWord, walk}
 use Rattle.model.specs.step.Memory.{within, numberAt, loadAt}
 use Rattle.model.specs.step.Walk.{kindOf, superBit, pointerOf, firstDomain, sectionEntry, largeEntry, smallEntry, descriptorAt, firstOf, firstFrom, firstAt, secondOf, secondFrom, secondAt, walkFrom, walkPage}
-use Rattle.model.specs.Types.{Entry, FirstUnmapped, SecondUnmapped, Four, Loaded, Value, Outside, Pointer, FirstLevel, Failing, Table, Section, Outcome, Mapped, Failed}
+use Rattle.model.specs.Types.{Entry, FirstUnmapped, SecondUnmapped, Four, Loaded, Value, Outside, Pointer, FirstLevel, Failing, Table, Section, Tables, Outcome, Mapped, Failed}
 use Rattle.model.proofs.BoolLaws.{push}
 use Rattle.model.proofs.Memory.{within-same, number-same}
 
@@ -101,11 +101,11 @@ first-same m a w = rw (sym (kind-same w), sym (super-same w)) (first-tests m a w
 place-same : (root a : ℕ) → root + 4 * (a / pageSize / 256) ≡ root + 4 * (a / sectionSize)
 place-same root a = omega arith
 
-pub walk-same : (m : List ℕ) (root a : ℕ) → translation (walkPage m root (a / pageSize)) ≡ walk m root a
+pub walk-same : (m : List ℕ) (tables : Tables) (a : ℕ) → translation (walkPage m tables (a / pageSize)) ≡ walk m (tables .root) a
 unfolding walkPage firstAt walk descriptor loadAt
-walk-same m root a =
-    let at : ℕ = root + 4 * (a / sectionSize) in
-    ap (λ i. translation (walkFrom (firstFrom (descriptorAt m i) (a / pageSize)) m (a / pageSize))) (place-same root a)
+walk-same m tables a =
+    let at : ℕ = tables .root + 4 * (a / sectionSize) in
+    ap (λ i. translation (walkFrom (firstFrom (descriptorAt m i) (a / pageSize)) m (a / pageSize))) (place-same (tables .root) a)
     ∙ push (λ x. translation (walkFrom (firstFrom x (a / pageSize)) m (a / pageSize))) (within Four m at) (Value (numberAt Four m at)) Outside
     ∙ ap (λ n. cond (within Four m at) n (failed 0xc)) (first-same m a (numberAt Four m at) ∙ ap (tableWord m a) (number-same Four m at))
     ∙ ap (λ b. cond b (tableWord m a (value m at 4)) (failed 0xc)) (within-same Four m at)

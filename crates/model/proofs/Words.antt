@@ -12,7 +12,7 @@ use Rattle.model.specs.reference.Rules.{Translation, found, failed, bits
 use Rattle.model.specs.step.Memory.{loadAt}
 use Rattle.model.specs.step.Walk.{kindOf, superBit, pointerOf, firstDomain, firstOf, firstFrom, firstAt, secondOf, secondFrom, secondAt, walkFrom, walkPage, sectionEntry, largeEntry, smallEntry, descriptorAt}
 use Rattle.model.specs.step.Track.{entryWord, isEntry, addEntry, addOutcome, staleWord}
-use Rattle.model.specs.Types.{Entry, FirstUnmapped, SecondUnmapped, Loaded, Value, Outside, FirstLevel, Failing, Table, Section, Outcome, Mapped, Failed}
+use Rattle.model.specs.Types.{Entry, FirstUnmapped, SecondUnmapped, Loaded, Value, Outside, FirstLevel, Failing, Table, Section, Tables, Outcome, Mapped, Failed}
 use Rattle.model.proofs.BoolLaws.{same-test, eqb-same, either, and-both}
 use Rattle.model.proofs.Entries.{Fits, same-true, same-self, decoded}
 use Rattle.model.proofs.Walk.{translation}
@@ -60,9 +60,9 @@ first-from : (m : List ℕ) (x : Loaded) (page : ℕ) → InRange (walkFrom (fir
 first-from m (Value w) page = first-range m w page
 first-from m Outside page = tt
 
-pub walk-range : (m : List ℕ) (root page : ℕ) → InRange (walkPage m root page)
+pub walk-range : (m : List ℕ) (tables : Tables) (page : ℕ) → InRange (walkPage m tables page)
 unfolding walkPage firstAt
-walk-range m root page = first-from m (descriptorAt m (root + 4 * (page / 256))) page
+walk-range m tables page = first-from m (descriptorAt m (tables .root + 4 * (page / 256))) page
 
 -- ── Words of entries ──
 

@@ -3,7 +3,7 @@ use Prim.Native.Nat.{ℕ, _+_, _*_, _-_, _/_, _<_}
 use mathlib.Core.Path.{_≡_}
 use mathlib.Core.Bool.{Bool, true}
 use mathlib.Core.List.{List}
-use Rattle.model.specs.Limits.{pageSize}
+use Rattle.model.specs.Limits.{pageSize, oldWindow}
 use Rattle.model.specs.reference.Rules.{found, domainOf, tableWord, State, outcome, Scope, covers, Places, Move, moves, chipOutcome, chipStep, one, kept, trackWord, stale}
 use Rattle.model.specs.reference.Runs.{next}
 use Rattle.model.specs.step.Machine.{After}
@@ -26,7 +26,7 @@ under s d = record {
 -- whether a page is stale in a context, with the track, the memory and the root that a call left
 abbrev pub staleAfter : After → ℕ → ℕ → Bool
 staleAfter x context page =
-    stale (x .track) context page (outcome (record { memory = x .memory; registers = x .registers }) (page * pageSize))
+    stale oldWindow (x .track) context page (outcome (record { memory = x .memory; registers = x .registers }) (page * pageSize))
 
 -- A TLB never remembers the register.
 pub record RegisterForgotten : Type 0 where
@@ -55,6 +55,6 @@ pub record DomainRemembered : Type 0 where
   -- each page that it mapped it maps still, by the same entry but for the domain
   pub alone : (m : List ℕ) (a w d : ℕ) (e : Entry) → d < 16 → tableWord m a w ≡ found e → tableWord m a (redomained d w) ≡ found (withDomain e d)
   -- and the page is stale in every context that uses a set in which the old entry is still noted
-  pub stale : (m t : List ℕ) (a w d : ℕ) (e : Entry) (u : Scope) (context : ℕ) → d < 16 → (d ≡ domainOf w → ⊥) → tableWord m a w ≡ found e →
-      covers u context ≡ true → kept u (trackWord t u (a / pageSize)) ≡ one e →
-      stale t context (a / pageSize) (tableWord m a (redomained d w)) ≡ true
+  pub stale : (m t : List ℕ) (window a w d : ℕ) (e : Entry) (u : Scope) (context : ℕ) → d < 16 → (d ≡ domainOf w → ⊥) → tableWord m a w ≡ found e →
+      covers u context ≡ true → kept u (trackWord window t u (a / pageSize)) ≡ one e →
+      stale window t context (a / pageSize) (tableWord m a (redomained d w)) ≡ true

@@ -7,23 +7,23 @@ use mathlib.Core.List.{List, [], _∷_, _++_, map}
 use mathlib.Core.Option.{Option, none, some}
 use lib.Dec.{eqb}
 use lib.ListN.{length, getD, replicate}
-use Rattle.model.specs.Limits.{pageSize, rowSize}
+use Rattle.model.specs.Limits.{pageSize, oldWindow, rowSize}
 use Rattle.model.specs.Numbers.{Result, ok, fault, refused, shown}
 use Rattle.model.specs.reference.Rules.{Translation, found, failed, State, fresh, effect, outcome, aligned, among, accessSize, Scope, global, Held, Places, heldScope, matches, Move, drop, load, move, moves, chipOutcome, flushPlace}
 use Rattle.model.specs.reference.Runs.{last, Checker, next, checkerRun, isRefused, seen, told, plainRun, Moment, chipStart, chipNext, chipRun, chipSeen, Holds}
 use Rattle.model.specs.step.Machine.{After, started, stepped}
-use Rattle.model.specs.Types.{Operation, Read, Write, Fetch, Entry}
+use Rattle.model.specs.Types.{Setting, Operation, Read, Write, Fetch, Entry}
 
 -- A start with any image, any track and any root, and a list of operations of any kind with any fields.
 pub record Session : Type 0 where
   pub image : List ℕ
   pub track : List ℕ
-  pub root : ℕ
+  pub setting : Setting
   pub operations : List Operation
 
 -- the chip with n places before the first operation: it is given image and root
 abbrev pub chipStartOf : Session → ℕ → List Move → Moment
-chipStartOf x n first = chipStart n (fresh (x .image) (x .root)) first
+chipStartOf x n first = chipStart n (fresh (x .image) (x .setting)) first
 
 -- a read, a write or a fetch
 unfoldable pub isAccess : Operation → Bool
@@ -37,7 +37,7 @@ alignedAccess o =
 module _ (m : Checker) where
   -- the checker's start, and that it is accepted
   abbrev pub begun : Session → After
-  begun x = m .start (x .image) (x .track) (x .root)
+  begun x = m .start (x .image) (x .track) (x .setting)
 
   abbrev pub Accepted : Session → Type 0
   Accepted x = isRefused (shown (begun x .answer)) ≡ false
@@ -51,7 +51,7 @@ module _ (m : Checker) where
 
   -- the plain machine's run, and the chip's with n places and these moves: they are given image and root, and what is told
   abbrev pub plainRunOf : Session → List (Option Result × State)
-  plainRunOf x = plainRun (fresh (x .image) (x .root)) (toldOf x)
+  plainRunOf x = plainRun (fresh (x .image) (x .setting)) (toldOf x)
 
   abbrev pub chipRunOf : Session → ℕ → List Move → (ℕ → List Move) → List Moment
   chipRunOf x n first script = chipRun (chipStartOf x n first) (toldOf x) script
@@ -59,7 +59,7 @@ module _ (m : Checker) where
   -- The first half: whatever a TLB of any size from one place up does, the chip with it, the machine with none and the checker give
   -- each operation not refused the same answer, and agree after every operation in all registers and memory bytes.
   pub record Same : Type 0 where
-    pub begins : (x : Session) → Accepted x → (record { memory = begun x .memory; registers = begun x .registers }) ≡ fresh (x .image) (x .root)
+    pub begins : (x : Session) → Accepted x → (record { memory = begun x .memory; registers = begun x .registers }) ≡ fresh (x .image) (x .setting)
     pub plain : (x : Session) → Accepted x → plainRunOf x ≡ map seen (checkerRunOf x)
     pub chip : (x : Session) → Accepted x → (n : ℕ) (first : List Move) (script : ℕ → List Move) →
         map chipSeen (chipRunOf x (suc n) first script) ≡ map seen (checkerRunOf x)
@@ -69,7 +69,7 @@ module _ (m : Checker) where
   atEnd x = last (begun x) (checkerRunOf x)
 
   abbrev pub plainEnd : Session → State
-  plainEnd x = last (none, fresh (x .image) (x .root)) (plainRunOf x) .1
+  plainEnd x = last (none, fresh (x .image) (x .setting)) (plainRunOf x) .1
 
   -- some TLB could then hold an entry that matches the page of o in the current context, whichever context it was loaded in, other
   -- than the present outcome
@@ -113,7 +113,7 @@ pub record Pinned : Type 0 where
       chipOutcome now (heldBy n s xs first script) a ≡ found (h .entry)
   -- a page of the window that the tables map can be loaded into a free place, unless something held matches, in some context, a page that the
   -- new entry would match there too
-  pub canLoad : (s : State) (ps : Places) (i page : ℕ) (e : Entry) → i < length ps → getD ps i none ≡ none → page < rowSize →
+  pub canLoad : (s : State) (ps : Places) (i page : ℕ) (e : Entry) → i < length ps → getD ps i none ≡ none → page < rowSize oldWindow →
       outcome s (page * pageSize) ≡ found e →
       ((h : Held) (c p : ℕ) → Holds h ps → matches h c p ≡ true → matches (loadedNow s page e) c p ≡ true → ⊥) →
       Holds (loadedNow s page e) (move s ps (load i page))
@@ -154,18 +154,18 @@ abbrev pub noneRefused : List Operation → List (Operation × Bool)
 noneRefused os = map (λ o. (o, false)) os
 
 -- what the plain machine and a chip have come to after these
-abbrev pub plainLast : List ℕ → ℕ → List Operation → Option Result × State
-plainLast image root os = last (none, fresh image root) (plainRun (fresh image root) (noneRefused os))
+abbrev pub plainLast : List ℕ → Setting → List Operation → Option Result × State
+plainLast image g os = last (none, fresh image g) (plainRun (fresh image g) (noneRefused os))
 
-abbrev pub chipLast : List ℕ → ℕ → List Operation → ℕ → List Move → (ℕ → List Move) → Moment
-chipLast image root os n first script =
-    last (chipStart n (fresh image root) first) (chipRun (chipStart n (fresh image root) first) (noneRefused os) script)
+abbrev pub chipLast : List ℕ → Setting → List Operation → ℕ → List Move → (ℕ → List Move) → Moment
+chipLast image g os n first script =
+    last (chipStart n (fresh image g) first) (chipRun (chipStart n (fresh image g) first) (noneRefused os) script)
 
 -- A chip can use under one context a global entry that was loaded under another: a run, told that nothing was refused, in which the tables
 -- no longer map the page, the chip answers `ok` through the entry, and the plain machine faults.
 pub record UsedAcross : Type 0 where
   pub image : List ℕ
-  pub root : ℕ
+  pub setting : Setting
   pub before : List Operation
   pub access : Operation
   pub places : ℕ
@@ -175,11 +175,11 @@ pub record UsedAcross : Type 0 where
   pub value : ℕ
   pub number : ℕ
   -- what the chip holds before the access is global, was loaded under another context, and matches the page of the access
-  pub holds : Holds held (heldBy places (fresh image root) (noneRefused before) first script)
+  pub holds : Holds held (heldBy places (fresh image setting) (noneRefused before) first script)
   pub shared : heldScope held ≡ global
-  pub elsewhere : held .context ≡ plainLast image root before .1 .registers .context → ⊥
-  pub matching : matches held (plainLast image root before .1 .registers .context) (access .a / pageSize) ≡ true
-  pub unmapped : outcome (plainLast image root before .1) (access .a) ≡ failed number
+  pub elsewhere : held .context ≡ plainLast image setting before .1 .registers .context → ⊥
+  pub matching : matches held (plainLast image setting before .1 .registers .context) (access .a / pageSize) ≡ true
+  pub unmapped : outcome (plainLast image setting before .1) (access .a) ≡ failed number
   -- the last answers
-  pub chipAnswers : chipLast image root (before ++ access ∷ []) places first script .answer ≡ some (ok value)
-  pub plainFaults : plainLast image root (before ++ access ∷ []) .0 ≡ some (fault number)
+  pub chipAnswers : chipLast image setting (before ++ access ∷ []) places first script .answer ≡ some (ok value)
+  pub plainFaults : plainLast image setting (before ++ access ∷ []) .0 ≡ some (fault number)

@@ -1,5 +1,5 @@
 -- Sizes, limits and alignments.
-use Prim.Native.Nat.{ℕ, _*_}
+use Prim.Native.Nat.{ℕ, _*_, _-_, _^_}
 
 -- bytes of a page, and bytes that one level-one descriptor maps
 abbrev pub pageSize : ℕ
@@ -8,17 +8,24 @@ pageSize = 4096
 abbrev pub sectionSize : ℕ
 sectionSize = 0x100000
 
--- virtual addresses are below this
-abbrev pub addressLimit : ℕ
-addressLimit = 0x400000
+-- The machine of the rules: N, of TTBCR, is 7, and its window is 4 MiB.
+abbrev pub oldSplit : ℕ
+oldSplit = 7
 
--- pages of the window: the words of a context's row in the track
-abbrev pub rowSize : ℕ
-rowSize = 1024
+abbrev pub oldWindow : ℕ
+oldWindow = 4
 
--- a root is a multiple of this
-abbrev pub rootAlignment : ℕ
-rootAlignment = 0x80
+-- with a window of w MiB, virtual addresses are below this
+unfoldable pub addressLimit : ℕ → ℕ
+addressLimit w = w * sectionSize
+
+-- and this many are its pages: the words of a context's row in the track
+unfoldable pub rowSize : ℕ → ℕ
+rowSize w = 256 * w
+
+-- with N, a root is a multiple of this
+unfoldable pub rootAlignment : ℕ → ℕ
+rootAlignment n = 2 ^ (14 - n)
 
 -- memory's length is a multiple of the one, and at most the other
 abbrev pub memoryUnit : ℕ

@@ -25,5 +25,5 @@ pub record SectionRemembered : Type 0 where
   pub alone : (m : List ℕ) (a w v : ℕ) → bits 1 0 v ≡ 1 → domainOf v ≡ domainOf w → inMemory m (secondPlace a v) 4 ≡ true →
       value m (secondPlace a v) 4 ≡ equalPage a w → tableWord m a v ≡ found (asPage (section a w))
   -- and the page is stale in every context that uses a set in which the section's entry is still noted
-  pub stale : (m t : List ℕ) (a w v : ℕ) (u : Scope) (context : ℕ) → tableWord m a v ≡ found (asPage (section a w)) → covers u context ≡ true →
-      kept u (trackWord t u (a / pageSize)) ≡ one (section a w) → stale t context (a / pageSize) (tableWord m a v) ≡ true
+  pub stale : (m t : List ℕ) (window a w v : ℕ) (u : Scope) (context : ℕ) → tableWord m a v ≡ found (asPage (section a w)) → covers u context ≡ true →
+      kept u (trackWord window t u (a / pageSize)) ≡ one (section a w) → stale window t context (a / pageSize) (tableWord m a v) ≡ true

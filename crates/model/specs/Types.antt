@@ -1,5 +1,6 @@
 -- The types of src/lib.rt and their constructors, under one roof.
 pub use Rattle.model.specs.declared.Registers.{Registers}
+pub use Rattle.model.specs.declared.Setting.{Setting}
 pub use Rattle.model.specs.declared.Kind.{Kind}
 pub use Rattle.model.specs.declared.Kind.the-variants.{Read, Write, Root, Asid, Mode, All, Addr, Ctx, AddrCtx, Fetch, Domain}
 pub use Rattle.model.specs.declared.Operation.{Operation}
@@ -22,6 +23,7 @@ pub use Rattle.model.specs.declared.Ruling.the-variants.{Allowed, Permis
 pub use Rattle.model.specs.declared.Pointer.{Pointer}
 pub use Rattle.model.specs.declared.FirstLevel.{FirstLevel}
 pub use Rattle.model.specs.declared.FirstLevel.the-variants.{Failing, Table, Section}
+pub use Rattle.model.specs.declared.Tables.{Tables}
 pub use Rattle.model.specs.declared.Outcome.{Outcome}
 pub use Rattle.model.specs.declared.Outcome.the-variants.{Mapped, Failed}
 pub use Rattle.model.specs.declared.Check.{Check}

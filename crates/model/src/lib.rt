@@ -10,6 +10,16 @@ pub struct Registers {
     pub domains: u32,
 }
 
+// The machine of the rules: the N of its TTBCR, and its window in MiB.
+pub const OLD_SPLIT: u32 = 7;
+
+pub const OLD_WINDOW: u32 = 4;
+
+// What a start is given beside memory and track: the address of the level-one table.
+pub struct Setting {
+    pub root: u32,
+}
+
 // The kinds of operation, in the order of the rules.
 pub enum Kind {
     Read,
@@ -126,6 +136,11 @@ pub enum FirstLevel {
     Failing(Fault),
     Table(Pointer),
     Section(Entry),
+}
+
+// What a walk needs to know of the tables beside memory: the address of the level-one table.
+pub struct Tables {
+    pub root: u32,
 }
 
 // What the walk of a page finds.

@@ -15,6 +15,7 @@ use Rattle.model.specs.declared.Fault.the-variants.{FirstUnmapped}
 use Rattle.model.specs.declared.Pointer.{Pointer}
 use Rattle.model.specs.declared.FirstLevel.{FirstLevel}
 use Rattle.model.specs.declared.FirstLevel.the-variants.{Failing, Table, Section}
+use Rattle.model.specs.declared.Tables.{Tables}
 use Rattle.model.specs.declared.Outcome.the-variants.{Mapped}
 use Rattle.model.specs.step.Memory.{numberAt, within, loadAt}
 use Rattle.model.specs.step.Rows.{mapFirst, mapWords}
@@ -74,18 +75,18 @@ module _ (p q : ℕ) (e : p % mibPages ≡ q % mibPages) where
   walk-same m Outside = refl
 
 -- page i of a MiB, by the level-one descriptor of that MiB
-one-page : (m : List ℕ) (root g page i w : ℕ) → page % mibPages ≡ 0 → i < mibPages → notePage m root g (page + i) w ≡ noteMib m (root + 4 * (page / mibPages)) g i w
+one-page : (m : List ℕ) (tables : Tables) (g page i w : ℕ) → page % mibPages ≡ 0 → i < mibPages → notePage m tables g (page + i) w ≡ noteMib m (tables .root + 4 * (page / mibPages)) g i w
 unfolding notePage walkPage firstAt
-one-page m root g page i w z h =
+one-page m tables g page i w z h =
     let mib : (page + i) / mibPages ≡ page / mibPages = omega (arith, z, h) in
     let in-mib : (page + i) % mibPages ≡ i % mibPages = omega (arith, z, h) in
-    ap (λ (k : ℕ). addOutcome g w (walkFrom (firstFrom (descriptorAt m (root + 4 * k)) (page + i)) m (page + i))) mib ∙ ap (addOutcome g w) (walk-same (page + i) i in-mib m (descriptorAt m (root + 4 * (page / mibPages))))
+    ap (λ (k : ℕ). addOutcome g w (walkFrom (firstFrom (descriptorAt m (tables .root + 4 * k)) (page + i)) m (page + i))) mib ∙ ap (addOutcome g w) (walk-same (page + i) i in-mib m (descriptorAt m (tables .root + 4 * (page / mibPages))))
 
 -- the next k pages of a row, which are those of one level-one descriptor
-pub by-mib : (m : List ℕ) (root g page k : ℕ) (rest : List ℕ) → page % mibPages ≡ 0 → k ≤ mibPages → mapFirst (notePage m root g) page (length (take k rest)) (take k rest) ≡ mapWords (noteMib m (root + 4 * (page / mibPages)) g) (take k rest)
-by-mib m root g page k rest z n =
+pub by-mib : (m : List ℕ) (tables : Tables) (g page k : ℕ) (rest : List ℕ) → page % mibPages ≡ 0 → k ≤ mibPages → mapFirst (notePage m tables g) page (length (take k rest)) (take k rest) ≡ mapWords (noteMib m (tables .root + 4 * (page / mibPages)) g) (take k rest)
+by-mib m tables g page k rest z n =
     let l : List ℕ = take k rest in
-    ap (λ (s : ℕ). mapFirst (notePage m root g) s (length l) l) (sym (add-zero page)) ∙ from-start (notePage m root g) page 0 (length l) l ∙ same-words (λ (i : ℕ). notePage m root g (page + i)) (noteMib m (root + 4 * (page / mibPages)) g) 0 (length l) l (λ (i : ℕ) a (w : ℕ). one-page m root g page i w z (omega (arith, a, n, part-length k rest)))
+    ap (λ (s : ℕ). mapFirst (notePage m tables g) s (length l) l) (sym (add-zero page)) ∙ from-start (notePage m tables g) page 0 (length l) l ∙ same-words (λ (i : ℕ). notePage m tables g (page + i)) (noteMib m (tables .root + 4 * (page / mibPages)) g) 0 (length l) l (λ (i : ℕ) a (w : ℕ). one-page m tables g page i w z (omega (arith, a, n, part-length k rest)))
 
 -- a word after noting page i of a MiB whose level-one word x says y of page 0
 abbrev pub noteFirst : List ℕ → FirstLevel → ℕ → ℕ → ℕ → ℕ → ℕ

@@ -1,6 +1,6 @@
 // Noting: what the tables map now is added to the sets of a track. Global entries go to the global row, the others to the row of the
-// current context. A row is lent on by itself, 1,024 words of the track, and told its kind by the number `global`: 0 for a context's
-// row, 1 for the global row.
+// current context. A row is lent on by itself, a word for each page of the window, and told its kind by the number `global`: 0 for a
+// context's row, 1 for the global row.
 ghost use mathlib.Core.Path.{_≡_};
 ghost use mathlib.Core.Bool.{true};
 ghost use Prim.Native.Nat.{_+_, _*_, _<_, _≤_};
@@ -15,6 +15,9 @@ use descriptor::first_of;
 use descriptor::second_of;
 use descriptor::section_entry;
 use limits::last_row;
+use limits::row_size;
+use limits::row_start;
+use limits::rows;
 use memory::load;
 use memory::number;
 use model::FirstLevel;
@@ -22,10 +25,8 @@ use model::Loaded;
 use model::Outcome;
 use model::Pointer;
 use model::Size;
+use model::Tables;
 use track::add_entry;
-
-// How many words a row has: rowSize.
-const ROW: usize = 1024;
 
 // How many pages a MiB has: mibPages.
 const MIB: usize = 256;
@@ -120,26 +121,27 @@ fn mib_end(page: usize, n: usize) -> usize
 }
 
 // Notes a row of this kind: each of its words is one page's. The pages of a MiB share a level-one descriptor, which is read once.
-pub fn note_row(m: &[u8], root: u32, global: u32, row: &mut [u32])
-    ensures { λ _. ⌜ now (row .exit) ≡ noteRow (now (m .entry)) root global (now (row .entry)) ⌝ }
+pub fn note_row(m: &[u8], tables: Tables, global: u32, row: &mut [u32])
+    ensures { λ _. ⌜ now (row .exit) ≡ noteRow (now (m .entry)) tables global (now (row .entry)) ⌝ }
 {
     let mut page = 0;
     while page < row.len() {
         let end = mib_end(page, row.len());
-        let at = root as usize + 4 * (page / MIB);
+        let at = tables.root as usize + 4 * (page / MIB);
         note_mib(m, at, global, &mut row[page..end]);
         page = end;
     }
 }
 
 // Notes one row of a track, where the track has it.
-fn note_in(m: &[u8], root: u32, global: u32, track: &mut [u32], row: usize)
-    ensures { λ _. ⌜ now (track .exit) ≡ inRow rowSize row (noteRow (now (m .entry)) root global) (now (track .entry)) ⌝ }
+fn note_in(window: u32, m: &[u8], tables: Tables, global: u32, track: &mut [u32], row: usize)
+    ensures { λ _. ⌜ now (track .exit) ≡ inRow (rowSize window) row (noteRow (now (m .entry)) tables global) (now (track .entry)) ⌝ }
 {
-    if row < track.len() / ROW {
-        let start = row * ROW;
-        let end = start + ROW;
-        note_row(m, root, global, &mut track[start..end]);
+    if row < rows(window, track.len()) {
+        let size = row_size(window);
+        let start = row_start(window, row, track.len());
+        let end = start + size;
+        note_row(m, tables, global, &mut track[start..end]);
     }
 }
 
@@ -222,14 +224,14 @@ fn changes_of_mib(m: &[u8], at: usize, own: &[u32], shared: &[u32]) -> u32
 }
 
 // Whether noting leaves a context's row and the global row as they are.
-fn rows_settled(m: &[u8], root: u32, own: &[u32], shared: &[u32]) -> bool
+fn rows_settled(m: &[u8], tables: Tables, own: &[u32], shared: &[u32]) -> bool
     requires { ⌜ length (now shared) ≡ length (now own) ⌝ }
-    ensures { λ r. ⌜ (r ≡ true → Both (notePage (now (m .entry)) root) (now (own .entry)) (now (shared .entry))) ⌝ }
+    ensures { λ r. ⌜ (r ≡ true → Both (notePage (now (m .entry)) tables) (now (own .entry)) (now (shared .entry))) ⌝ }
 {
     let mut page = 0;
     while page < own.len() {
         let end = mib_end(page, own.len());
-        let first = root as usize + 4 * (page / MIB);
+        let first = tables.root as usize + 4 * (page / MIB);
         if changes_of_mib(m, first, &own[page..end], &shared[page..end]) != 0 {
             return false;
         }
@@ -238,36 +240,37 @@ fn rows_settled(m: &[u8], root: u32, own: &[u32], shared: &[u32]) -> bool
     true
 }
 
-// Whether noting leaves a track as it is; false also where the context has no row of its own.
-fn is_settled(m: &[u8], root: u32, track: &[u32], context: usize) -> bool
-    ensures { λ r. ⌜ (r ≡ true → now (track .entry) ≡ noteTrack (now (m .entry)) root context (now (track .entry))) ⌝ }
+// Whether noting leaves a track as it is; false also where the track lacks a row.
+fn is_settled(window: u32, m: &[u8], tables: Tables, track: &[u32], context: usize) -> bool
+    ensures { λ r. ⌜ (r ≡ true → now (track .entry) ≡ noteTrack window (now (m .entry)) tables context (now (track .entry))) ⌝ }
 {
-    let last = last_row(track.len());
+    let last = last_row(window, track.len());
     if context < last {
-        let own = context * ROW;
-        let own_end = own + ROW;
-        let shared = last * ROW;
-        let shared_end = shared + ROW;
-        return rows_settled(m, root, &track[own..own_end], &track[shared..shared_end]);
+        let size = row_size(window);
+        let own = row_start(window, context, track.len());
+        let own_end = own + size;
+        let shared = row_start(window, last, track.len());
+        let shared_end = shared + size;
+        return rows_settled(m, tables, &track[own..own_end], &track[shared..shared_end]);
     }
     false
 }
 
 // Notes the row of a context, where the track has it, then the global row.
-pub fn note_rows(m: &[u8], root: u32, track: &mut [u32], context: usize)
-    ensures { λ _. ⌜ now (track .exit) ≡ noteTrack (now (m .entry)) root context (now (track .entry)) ⌝ }
+pub fn note_rows(window: u32, m: &[u8], tables: Tables, track: &mut [u32], context: usize)
+    ensures { λ _. ⌜ now (track .exit) ≡ noteTrack window (now (m .entry)) tables context (now (track .entry)) ⌝ }
 {
-    let last = last_row(track.len());
-    note_in(m, root, 0, track, context);
-    note_in(m, root, 1, track, last);
+    let last = last_row(window, track.len());
+    note_in(window, m, tables, 0, track, context);
+    note_in(window, m, tables, 1, track, last);
 }
 
 // The same, but that it looks first whether anything is to be noted: what to call where mostly nothing is.
-pub fn note(m: &[u8], root: u32, track: &mut [u32], context: usize)
-    ensures { λ _. ⌜ now (track .exit) ≡ noteTrack (now (m .entry)) root context (now (track .entry)) ⌝ }
+pub fn note(window: u32, m: &[u8], tables: Tables, track: &mut [u32], context: usize)
+    ensures { λ _. ⌜ now (track .exit) ≡ noteTrack window (now (m .entry)) tables context (now (track .entry)) ⌝ }
 {
-    if is_settled(m, root, track, context) {
+    if is_settled(window, m, tables, track, context) {
         return;
     }
-    note_rows(m, root, track, context);
+    note_rows(window, m, tables, track, context);
 }

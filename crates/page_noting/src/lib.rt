@@ -6,11 +6,12 @@ ghost use Rattle.model.specs.step.Rows.{inRow};
 ghost use Rattle.model.specs.step.Track.{addOutcome};
 ghost use Rattle.runs.specs.Step.{noteFound, noteOnePage};
 use limits::last_row;
+use limits::row_size;
+use limits::row_start;
+use limits::rows;
 use model::Outcome;
+use model::Tables;
 use noting::add_outcome;
-
-// How many words a row has: rowSize.
-const ROW: usize = 1024;
 
 // Notes a page of a row of this kind, by what its walk found.
 fn note_found(row: &mut [u32], global: u32, page: usize, o: Outcome)
@@ -23,22 +24,30 @@ fn note_found(row: &mut [u32], global: u32, page: usize, o: Outcome)
 }
 
 // Notes it in one row of a track, where the track has it.
-fn note_in(track: &mut [u32], row: usize, global: u32, page: usize, o: Outcome)
-    ensures { λ _. ⌜ now (track .exit) ≡ inRow rowSize row (noteFound global page o) (now (track .entry)) ⌝ }
+fn note_in(window: u32, track: &mut [u32], row: usize, global: u32, page: usize, o: Outcome)
+    ensures { λ _. ⌜ now (track .exit) ≡ inRow (rowSize window) row (noteFound global page o) (now (track .entry)) ⌝ }
 {
-    if row < track.len() / ROW {
-        let start = row * ROW;
-        let end = start + ROW;
+    if row < rows(window, track.len()) {
+        let size = row_size(window);
+        let start = row_start(window, row, track.len());
+        let end = start + size;
         note_found(&mut track[start..end], global, page, o);
     }
 }
 
 // Notes a page in the row of a context, where the track has it, then in the global row.
-pub fn note_page(m: &[u8], root: u32, track: &mut [u32], context: usize, page: usize)
-    ensures { λ _. ⌜ now (track .exit) ≡ noteOnePage (now (m .entry)) root context page (now (track .entry)) ⌝ }
+pub fn note_page(
+    window: u32,
+    m: &[u8],
+    tables: Tables,
+    track: &mut [u32],
+    context: usize,
+    page: usize,
+)
+    ensures { λ _. ⌜ now (track .exit) ≡ noteOnePage window (now (m .entry)) tables context page (now (track .entry)) ⌝ }
 {
-    let last = last_row(track.len());
-    let o = walk::walk(m, root, page);
-    note_in(track, context, 0, page, o);
-    note_in(track, last, 1, page, o);
+    let last = last_row(window, track.len());
+    let o = walk::walk(m, tables, page);
+    note_in(window, track, context, 0, page, o);
+    note_in(window, track, last, 1, page, o);
 }

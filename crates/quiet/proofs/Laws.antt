@@ -5,13 +5,14 @@ use mathlib.Core.Bool.{Bool, true, false, cond, not}
 use mathlib.Core.List.{List}
 use native.Mathlib.Omega.{arith}
 use Rattle.model.specs.step.Walk.{descriptorAt, firstFrom}
-use Rattle.runs.specs.Used.{windowWords, wordSize, firstPlace}
+use Rattle.model.specs.declared.Tables.{Tables}
+use Rattle.runs.specs.Used.{wordSize, firstPlace}
 use Rattle.runs.specs.Quiet.{overlap, touchesTable, touchesTables, touches, quiet}
 
-pub one-mib : (m : List ℕ) (root at n k : ℕ) → 0 < k → touchesTables m root k at n ≡ cond (touchesTable (firstFrom (descriptorAt m (firstPlace root (k - 1))) 0) at n) true (touchesTables m root (k - 1) at n)
+pub one-mib : (m : List ℕ) (tables : Tables) (at n k : ℕ) → 0 < k → touchesTables m tables k at n ≡ cond (touchesTable (firstFrom (descriptorAt m (firstPlace (tables .root) (k - 1))) 0) at n) true (touchesTables m tables (k - 1) at n)
 unfolding touchesTables
-one-mib m root at n zero h = absurd (let z : ⊥ = omega arith in z)
-one-mib m root at n (suc k) h = ap (λ j. cond (touchesTable (firstFrom (descriptorAt m (firstPlace root j)) 0) at n) true (touchesTables m root j at n)) less
+one-mib m tables at n zero h = absurd (let z : ⊥ = omega arith in z)
+one-mib m tables at n (suc k) h = ap (λ j. cond (touchesTable (firstFrom (descriptorAt m (firstPlace (tables .root) j)) 0) at n) true (touchesTables m tables j at n)) less
   where
     less : k ≡ suc k - 1
     less = omega arith
@@ -20,25 +21,25 @@ one-mib m root at n (suc k) h = ap (λ j. cond (touchesTable (firstFrom (descrip
 pub apart : {r x y : Bool} → r ≡ x → r ≡ false → cond x true y ≡ y
 apart p q = rw (sym p ∙ q)
 
-pub none-left : (m : List ℕ) (root at n k : ℕ) → k ≤ 0 → touchesTables m root k at n ≡ false
+pub none-left : (m : List ℕ) (tables : Tables) (at n k : ℕ) → k ≤ 0 → touchesTables m tables k at n ≡ false
 unfolding touchesTables
-none-left m root at n zero h = refl
-none-left m root at n (suc k) h = absurd (let z : ⊥ = omega arith in z)
+none-left m tables at n zero h = refl
+none-left m tables at n (suc k) h = absurd (let z : ⊥ = omega arith in z)
 
 -- the word before k is met
-pub met : (m : List ℕ) (root at n k : ℕ) → 0 < k → {r : Bool} → r ≡ touchesTable (firstFrom (descriptorAt m (firstPlace root (k - 1))) 0) at n → r ≡ true → touchesTables m root k at n ≡ true
-met m root at n k h p q = one-mib m root at n k h ∙ ap (λ b. cond b true (touchesTables m root (k - 1) at n)) (sym p ∙ q)
+pub met : (m : List ℕ) (tables : Tables) (at n k : ℕ) → 0 < k → {r : Bool} → r ≡ touchesTable (firstFrom (descriptorAt m (firstPlace (tables .root) (k - 1))) 0) at n → r ≡ true → touchesTables m tables k at n ≡ true
+met m tables at n k h p q = one-mib m tables at n k h ∙ ap (λ b. cond b true (touchesTables m tables (k - 1) at n)) (sym p ∙ q)
 
 -- the whole test of n bytes, by what the two tests said: a level-one word is touched, or none is
-pub word-met : (m : List ℕ) (root at n k : ℕ) → {r : Bool} → r ≡ overlap at n root (wordSize * windowWords) → r ≡ true → n ≡ k → false ≡ quiet m root at k
+pub word-met : (w : ℕ) (m : List ℕ) (tables : Tables) (at n k : ℕ) → {r : Bool} → r ≡ overlap at n (tables .root) (wordSize * w) → r ≡ true → n ≡ k → false ≡ quiet w m tables at k
 unfolding quiet touches
-word-met m root at n k p q e =
-    ap (λ b. not (cond b true (touchesTables m root windowWords at n))) (sym q ∙ p) ∙ ap (λ i. not (touches m root windowWords at i)) e
+word-met w m tables at n k p q e =
+    ap (λ b. not (cond b true (touchesTables m tables w at n))) (sym q ∙ p) ∙ ap (λ i. not (touches m tables w at i)) e
 
-pub no-word-met : (m : List ℕ) (root at n k : ℕ) → {r s : Bool} → r ≡ overlap at n root (wordSize * windowWords) → r ≡ false →
-    s ≡ touchesTables m root windowWords at n → n ≡ k → not s ≡ quiet m root at k
+pub no-word-met : (w : ℕ) (m : List ℕ) (tables : Tables) (at n k : ℕ) → {r s : Bool} → r ≡ overlap at n (tables .root) (wordSize * w) → r ≡ false →
+    s ≡ touchesTables m tables w at n → n ≡ k → not s ≡ quiet w m tables at k
 unfolding quiet touches
-no-word-met m root at n k p q f e =
+no-word-met w m tables at n k p q f e =
     ap not f
-    ∙ ap (λ b. not (cond b true (touchesTables m root windowWords at n))) (sym q ∙ p)
-    ∙ ap (λ i. not (touches m root windowWords at i)) e
+    ∙ ap (λ b. not (cond b true (touchesTables m tables w at n))) (sym q ∙ p)
+    ∙ ap (λ i. not (touches m tables w at i)) e

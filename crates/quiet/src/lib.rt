@@ -2,7 +2,6 @@
 ghost use mathlib.Core.Path.{_≡_};
 ghost use Rattle.model.specs.step.Memory.{bytesOf};
 ghost use Rattle.model.specs.step.Walk.{descriptorAt, firstFrom};
-ghost use Rattle.runs.specs.Used.{windowWords};
 ghost use Rattle.runs.specs.Quiet.{overlap, touchesTable, touchesTables, quiet};
 use descriptor::first_of;
 use memory::bytes;
@@ -10,6 +9,7 @@ use memory::load;
 use model::FirstLevel;
 use model::Loaded;
 use model::Size;
+use model::Tables;
 
 // Whether the n bytes from a on and the k bytes from b on have one in common.
 fn overlaps(a: usize, n: usize, b: usize, k: usize) -> bool
@@ -42,14 +42,14 @@ fn touches_mib(m: &[u8], first: usize, at: usize, n: usize) -> bool
     }
 }
 
-// Whether they touch the table of a MiB of the window.
-fn touches_tables(m: &[u8], root: u32, at: usize, n: usize) -> bool
-    ensures { λ r. ⌜ r ≡ touchesTables (now (m .entry)) root windowWords at n ⌝ }
+// Whether they touch the table of one of the first `mibs` MiB.
+fn touches_tables(m: &[u8], tables: Tables, mibs: u32, at: usize, n: usize) -> bool
+    ensures { λ r. ⌜ r ≡ touchesTables (now (m .entry)) tables mibs at n ⌝ }
 {
-    let mut i = 4; // windowWords
+    let mut i = mibs as usize;
     while 0 < i {
         i -= 1;
-        if touches_mib(m, root as usize + 4 * i, at, n) {
+        if touches_mib(m, tables.root as usize + 4 * i, at, n) {
             return true;
         }
     }
@@ -57,12 +57,12 @@ fn touches_tables(m: &[u8], root: u32, at: usize, n: usize) -> bool
 }
 
 // Whether a store of this size at `at` is quiet: it touches no level-one word of the window, and none of these tables.
-pub fn is_quiet(m: &[u8], root: u32, at: usize, size: Size) -> bool
-    ensures { λ r. ⌜ r ≡ quiet (now (m .entry)) root at (bytesOf size) ⌝ }
+pub fn is_quiet(window: u32, m: &[u8], tables: Tables, at: usize, size: Size) -> bool
+    ensures { λ r. ⌜ r ≡ quiet window (now (m .entry)) tables at (bytesOf size) ⌝ }
 {
     let n = bytes(size);
-    if overlaps(at, n, root as usize, 16) { // wordSize * windowWords
+    if overlaps(at, n, tables.root as usize, 4 * window as usize) { // wordSize
         return false;
     }
-    !touches_tables(m, root, at, n)
+    !touches_tables(m, tables, window, at, n)
 }

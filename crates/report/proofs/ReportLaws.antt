@@ -10,6 +10,7 @@ use borrow.Author.Tests.{lt-ltb, le-ltb, eq-eqb, ne-eqb, ltb-false}
 use Rattle.text.specs.Split.{past}
 use Rattle.text.specs.Put.{over, wrote, placeAfter}
 use Rattle.text.proofs.PutLaws.{over-over, wrote-fits}
+use Rattle.model.specs.Limits.{oldWindow}
 use Rattle.model.specs.Numbers.{refused, refusalNumber, shown}
 use Rattle.model.specs.declared.Answer.{Answer}
 use Rattle.model.specs.declared.Answer.the-variants.{Done, Faulted, Refused}
@@ -32,7 +33,7 @@ use Rattle.listing.specs.Whole.{listLimit, listNumber, tooLong, hasNames, Endin
 use Rattle.report_line.specs.Text.{header, noName, startName, reportLine, lineRoom}
 use Rattle.report.specs.declared.Told.{Told}
 use Rattle.report.specs.declared.Told.the-variants.{Report, ShortBuffer, WrongTrack, WrongCounts}
-use Rattle.report.specs.Report.{answerLines, answerText, Left, replayed, afterStart, bodyOf, headed, reportOf, imageLimit, memoryLength, trackLength, passes, looksAtList, reportLimit, Ran, ReportCall, unchanged, reported, called, GivesReport}
+use Rattle.report.specs.Report.{setting, answerLines, answerText, Left, replayed, afterStart, bodyOf, headed, reportOf, imageLimit, memoryLength, trackLength, passes, looksAtList, reportLimit, Ran, ReportCall, unchanged, reported, called, GivesReport}
 use Rattle.report.proofs.LinesLaws.{ended, stopped-at}
 
 -- ── The list ──
@@ -95,11 +96,11 @@ carried-from x r m t l e f g =
     ∙ answer-apart (Done 0) (x .answer) (x .registers) (x .memory) (x .track) 2 (l .operations) (l .ending)
 
 -- what a start that is not refused returns and leaves: the track is noted
-pub noted-from : (m t : List ℕ) (x : Returned) (l u : List ℕ) → Gives (started m t 0) x l u → isRefused (shown (x .answer)) ≡ false →
-    Noted (record { memory = l; registers = x .registers }) u
+pub noted-from : (m t : List ℕ) (x : Returned) (l u : List ℕ) → Gives (started m t setting) x l u → isRefused (shown (x .answer)) ≡ false →
+    Noted oldWindow (record { memory = l; registers = x .registers }) u
 noted-from m t x l u g q =
-    subst₂ (λ (s : State) (v : List ℕ). Noted s v) (λ i. record { memory = sym (g .memory) i; registers = sym (g .registers) i }) (sym (g .track))
-    (noted-start m t 0 (ap (λ (a : Answer). isRefused (shown a)) (sym (g .answer)) ∙ q))
+    subst₂ (λ (s : State) (v : List ℕ). Noted oldWindow s v) (λ i. record { memory = sym (g .memory) i; registers = sym (g .registers) i }) (sym (g .track))
+    (noted-start m t setting (ap (λ (a : Answer). isRefused (shown a)) (sym (g .answer)) ∙ q))
 
 pub done-kept : (a : Answer) (v : ℕ) → a ≡ Done v → isRefused (shown a) ≡ false
 unfolding isRefused
@@ -110,17 +111,17 @@ unfolding isRefused
 faulted-kept a f e = ap (λ (z : Answer). isRefused (shown z)) e
 
 module _ (m t l : List ℕ) where
-  pub body-refused : (n : Refusal) → started m t 0 .answer ≡ Refused n → bodyOf m t l ≡ ended (reportLine 0 startName (refused (refusalNumber n))) (started m t 0)
+  pub body-refused : (n : Refusal) → started m t setting .answer ≡ Refused n → bodyOf m t l ≡ ended (reportLine 0 startName (refused (refusalNumber n))) (started m t setting)
   unfolding bodyOf
-  body-refused n e = ap (λ (a : Answer). afterStart a (started m t 0) l) e
+  body-refused n e = ap (λ (a : Answer). afterStart a (started m t setting) l) e
 
-  pub body-done : (v : ℕ) → started m t 0 .answer ≡ Done v → bodyOf m t l ≡ replayed 2 (started m t 0) (readList l)
+  pub body-done : (v : ℕ) → started m t setting .answer ≡ Done v → bodyOf m t l ≡ replayed 2 (started m t setting) (readList l)
   unfolding bodyOf
-  body-done v e = ap (λ (a : Answer). afterStart a (started m t 0) l) e
+  body-done v e = ap (λ (a : Answer). afterStart a (started m t setting) l) e
 
-  pub body-faulted : (f : Fault) → started m t 0 .answer ≡ Faulted f → bodyOf m t l ≡ replayed 2 (started m t 0) (readList l)
+  pub body-faulted : (f : Fault) → started m t setting .answer ≡ Faulted f → bodyOf m t l ≡ replayed 2 (started m t setting) (readList l)
   unfolding bodyOf
-  body-faulted f e = ap (λ (a : Answer). afterStart a (started m t 0) l) e
+  body-faulted f e = ap (λ (a : Answer). afterStart a (started m t setting) l) e
 
 -- ── The header ──
 
@@ -145,9 +146,9 @@ memory-fits n k h = go (leb n imageLimit)
     go false = omega arith
 
 -- what the check of a start says of looking at the list
-pub looked : (n k : ℕ) (x y : Check) → k ≡ memoryLength n → x ≡ firstFailing (startChecks k trackLength 0) → x ≡ y → passes y ≡ looksAtList n
+pub looked : (n k : ℕ) (x y : Check) → k ≡ memoryLength n → x ≡ firstFailing (startChecks k trackLength setting) → x ≡ y → passes y ≡ looksAtList n
 unfolding looksAtList
-looked n k x y e f g = ap passes (sym g ∙ f) ∙ ap (λ (z : ℕ). passes (firstFailing (startChecks z trackLength 0))) e
+looked n k x y e f g = ap passes (sym g ∙ f) ∙ ap (λ (z : ℕ). passes (firstFailing (startChecks z trackLength setting))) e
 
 module _ (i : List ℕ) (n : ℕ) (l : List ℕ) (k : ℕ) (t out : List ℕ) where
   pub call-short : length out < reportLimit → called i n l k t out ≡ unchanged ShortBuffer i t out

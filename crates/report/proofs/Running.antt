@@ -8,6 +8,7 @@ use lib.ListN.{length, length-append, take, drop}
 use Rattle.text.specs.Split.{past}
 use Rattle.text.specs.Put.{over, wrote, placeAfter}
 use Rattle.text.proofs.PutLaws.{over-over, over-none, length-over, wrote-fits}
+use Rattle.model.specs.Limits.{oldWindow}
 use Rattle.model.specs.Numbers.{Result, refused, shown}
 use Rattle.model.specs.declared.Answer.{Answer}
 use Rattle.model.specs.declared.Operation.{Operation}
@@ -41,7 +42,7 @@ pub record Running (whole : Left) (d : List ℕ) (at : ℕ) (r : Registers) (m t
   pub is-registers : x .registers ≡ r
   pub is-memory : x .memory ≡ m
   pub is-track : x .track ≡ t
-  pub is-noted : Noted (stateOf x) (x .track)
+  pub is-noted : Noted oldWindow (stateOf x) (x .track)
   pub enough : length left ≤ turns
   pub lines : line + length left ≤ 65538
   pub room : at + length text + (4 * length left + 64) ≤ length d
@@ -54,7 +55,7 @@ pub record Running (whole : Left) (d : List ℕ) (at : ℕ) (r : Registers) (m t
 together : (s t : List ℕ) (r : Left) → behind s (behind t r) ≡ behind (s ++ t) r
 together s t r = ap (λ (u : List ℕ). record { text = u; memory = r .memory; track = r .track }) (sym (append-assoc s t (r .text)))
 
-pub running-start : (x : After) (l d : List ℕ) (at : ℕ) → length l ≤ 65536 → at + (4 * length l + 64) ≤ length d → Noted (stateOf x) (x .track) →
+pub running-start : (x : After) (l d : List ℕ) (at : ℕ) → length l ≤ 65536 → at + (4 * length l + 64) ≤ length d → Noted oldWindow (stateOf x) (x .track) →
     Running (replayed 2 x (readLines (length l) 2 l)) d at (x .registers) (x .memory) (x .track) d l at 2
 running-start x l d at h room n =
     record {

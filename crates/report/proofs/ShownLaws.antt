@@ -36,7 +36,7 @@ use Rattle.report_line.specs.Text.{header, startName, reportLine}
 use Rattle.report_line.proofs.ReportLineLaws.{line-most, refusal-most, start-most}
 use Rattle.report.specs.declared.Told.{Told}
 use Rattle.report.specs.declared.Told.the-variants.{Report, ShortBuffer, WrongTrack, WrongCounts}
-use Rattle.report.specs.Report.{answerLines, answerText, endText, Left, replayed, afterStart, bodyOf, memoryLength, trackLength, passes, looksAtList, reportOf, reportLimit, unchanged, reported, called}
+use Rattle.report.specs.Report.{setting, answerLines, answerText, endText, Left, replayed, afterStart, bodyOf, memoryLength, trackLength, passes, looksAtList, reportOf, reportLimit, unchanged, reported, called}
 use Rattle.report.specs.Shown.{session, lines, unlessRefused, plainAnswer, chipAnswer, Honest}
 use Rattle.report.proofs.LinesLaws.{lineFor, ended, lines-op, lines-refused, lines-end, stopped-at}
 use Rattle.report.proofs.ReportLaws.{read-long, read-names, read-none, not-long, memory-fits}
@@ -56,12 +56,12 @@ chip-firsts (x ∷ xs) = ap (λ (r : List (Option Result)). x .answer ∷ r) (ch
 
 shows-plain : (m t l : List ℕ) → Accepted checker (session m t l) → map unlessRefused (lines m t l) ≡ map plainAnswer (plainRunOf checker (session m t l))
 shows-plain m t l a =
-    lines-seen 2 (started m t 0) (readList l .operations) ∙ ap (map plainAnswer) (sym (invisible .same .plain (session m t l) a))
+    lines-seen 2 (started m t setting) (readList l .operations) ∙ ap (map plainAnswer) (sym (invisible .same .plain (session m t l) a))
 
 shows-chip : (m t l : List ℕ) → Accepted checker (session m t l) → (n : ℕ) (first : List Move) (script : ℕ → List Move) →
     map unlessRefused (lines m t l) ≡ map chipAnswer (chipRunOf checker (session m t l) (suc n) first script)
 shows-chip m t l a n first script =
-    lines-seen 2 (started m t 0) (readList l .operations)
+    lines-seen 2 (started m t setting) (readList l .operations)
     ∙ ap (map plainAnswer) (sym (invisible .same .chip (session m t l) a n first script))
     ∙ chip-firsts (chipRunOf checker (session m t l) (suc n) first script)
 
@@ -80,7 +80,7 @@ start-refused (Faulted f) x l h = absurd (true≢false (sym h))
 start-refused (Refused r) x l h = refl
 
 -- a start is accepted exactly if its checks let it pass
-start-passes : (c : Check) (m t : List ℕ) → passes c ≡ not (isRefused (shown (startedBy c m t 0 .answer)))
+start-passes : (c : Check) (m t : List ℕ) → passes c ≡ not (isRefused (shown (startedBy c m t setting .answer)))
 unfolding isRefused
 start-passes Pass m t = refl
 start-passes (Refuse r) m t = refl
@@ -89,19 +89,19 @@ memory-most : (n : ℕ) (i : List ℕ) → n ≤ length i → length (take (memo
 memory-most n i h = length-take-le (memoryLength n) i (memory-fits n (length i) h)
 
 before-list : (i t : List ℕ) (n : ℕ) → n ≤ length i → length t ≡ trackLength →
-    looksAtList n ≡ not (isRefused (shown (started (take (memoryLength n) i) t 0 .answer)))
+    looksAtList n ≡ not (isRefused (shown (started (take (memoryLength n) i) t setting .answer)))
 unfolding looksAtList started
 before-list i t n h e =
-    ap₂ (λ (a b : ℕ). passes (firstFailing (startChecks a b 0))) (sym (memory-most n i h)) (sym e)
-    ∙ start-passes (firstFailing (startChecks (length (take (memoryLength n) i)) (length t) 0)) (take (memoryLength n) i) t
+    ap₂ (λ (a b : ℕ). passes (firstFailing (startChecks a b setting))) (sym (memory-most n i h)) (sym e)
+    ∙ start-passes (firstFailing (startChecks (length (take (memoryLength n) i)) (length t) setting)) (take (memoryLength n) i) t
 
 shows-lines : (m t l : List ℕ) → Accepted checker (session m t l) → reportOf m t l .text ≡ header ++ (answerText (lines m t l) ++ endText (readList l .ending))
 unfolding reportOf bodyOf
-shows-lines m t l a = ap (λ (r : Left). header ++ r .text) (start-accepted (started m t 0 .answer) (started m t 0) l a)
+shows-lines m t l a = ap (λ (r : Left). header ++ r .text) (start-accepted (started m t setting .answer) (started m t setting) l a)
 
-shows-start : (m t l : List ℕ) → isRefused (shown (started m t 0 .answer)) ≡ true → reportOf m t l .text ≡ header ++ reportLine 0 startName (shown (started m t 0 .answer))
+shows-start : (m t l : List ℕ) → isRefused (shown (started m t setting .answer)) ≡ true → reportOf m t l .text ≡ header ++ reportLine 0 startName (shown (started m t setting .answer))
 unfolding reportOf bodyOf
-shows-start m t l h = ap (λ (r : Left). header ++ r .text) (start-refused (started m t 0 .answer) (started m t 0) l h)
+shows-start m t l h = ap (λ (r : Left). header ++ r .text) (start-refused (started m t setting .answer) (started m t setting) l h)
 
 -- ── The size ──
 
@@ -156,8 +156,8 @@ body-fits (Refused r) x l = omega (arith, start-most (refusalNumber r))
 report-fits : (m t l : List ℕ) → length (reportOf m t l .text) ≤ reportLimit
 unfolding reportOf bodyOf
 report-fits m t l =
-    let r = afterStart (started m t 0 .answer) (started m t 0) l in
-    omega (arith, length-append header (r .text), body-fits (started m t 0 .answer) (started m t 0) l)
+    let r = afterStart (started m t setting .answer) (started m t setting) l in
+    omega (arith, length-append header (r .text), body-fits (started m t setting .answer) (started m t setting) l)
 
 pub honest : Honest
 honest = record { accepted = shows-lines; refusedStart = shows-start; beforeTheList = before-list; plain = shows-plain; chip = shows-chip; fits = report-fits }

@@ -13,7 +13,9 @@ use Rattle.model.specs.declared.Check.{Check}
 use Rattle.model.specs.declared.Check.the-variants.{Pass, Refuse}
 use Rattle.model.specs.step.Checks.{startChecks, firstFailing}
 use Rattle.model.specs.step.Machine.{After, started}
+use Rattle.model.specs.reference.Rules.{rooted}
 use Rattle.model.specs.reference.Runs.{last, checkerRun}
+use Rattle.model.specs.declared.Setting.{Setting}
 use Rattle.model.specs.Invisible.{checker}
 use Rattle.text.specs.Put.{over}
 use Rattle.names.specs.Names.{name}
@@ -29,6 +31,9 @@ imageLimit = 32768
 abbrev pub trackLength : ℕ
 trackLength = 9216
 
+abbrev pub setting : Setting
+setting = rooted 0
+
 -- the memory that an image file of n bytes gives: one that is too long counts as length 0, and so does a missing one, of which 0 bytes
 -- are read
 abbrev pub memoryLength : ℕ → ℕ
@@ -41,7 +46,7 @@ passes (Refuse r) = false
 
 -- whether the list is looked at: only after a start, from an image file of n bytes, that is accepted
 unfoldable pub looksAtList : ℕ → Bool
-looksAtList n = passes (firstFailing (startChecks (memoryLength n) trackLength 0))
+looksAtList n = passes (firstFailing (startChecks (memoryLength n) trackLength setting))
 
 -- a line of the report: the number of the list's line, its operation, and the result
 pub record AnswerLine : Type 0 where
@@ -88,7 +93,7 @@ afterStart (Faulted f) x l = replayed 2 x (readList l)
 
 -- the report of memory m and list l, with a track t
 unfoldable pub bodyOf : List ℕ → List ℕ → List ℕ → Left
-bodyOf m t l = afterStart (started m t 0 .answer) (started m t 0) l
+bodyOf m t l = afterStart (started m t setting .answer) (started m t setting) l
 
 abbrev pub headed : Left → Left
 headed r = record { text = header ++ r .text; memory = r .memory; track = r .track }

@@ -12,11 +12,11 @@ use Rattle.model.specs.step.Machine.{started}
 use Rattle.model.specs.Invisible.{Session, Accepted, checker, checkerRunOf, plainRunOf, chipRunOf}
 use Rattle.listing.specs.Whole.{readList}
 use Rattle.report_line.specs.Text.{header, startName, reportLine}
-use Rattle.report.specs.Report.{trackLength, memoryLength, looksAtList, AnswerLine, answerLines, answerText, endText, reportOf, reportLimit}
+use Rattle.report.specs.Report.{setting, trackLength, memoryLength, looksAtList, AnswerLine, answerLines, answerText, endText, reportOf, reportLimit}
 
 -- a start with memory m, track t and root 0, and the operations read of the list l: those of its lines before the end or the refusal
 abbrev pub session : List ℕ → List ℕ → List ℕ → Session
-session m t l = record { image = m; track = t; root = 0; operations = readList l .operations }
+session m t l = record { image = m; track = t; setting = setting; operations = readList l .operations }
 
 -- the lines of the report before its end or the list refusal
 abbrev pub lines : List ℕ → List ℕ → List ℕ → List AnswerLine
@@ -40,11 +40,11 @@ pub record Honest : Type 0 where
   pub accepted : (m t l : List ℕ) → Accepted checker (session m t l) →
       reportOf m t l .text ≡ header ++ (answerText (lines m t l) ++ endText (readList l .ending))
   -- after a refused start it is the header and the start's line
-  pub refusedStart : (m t l : List ℕ) → isRefused (shown (started m t 0 .answer)) ≡ true →
-      reportOf m t l .text ≡ header ++ reportLine 0 startName (shown (started m t 0 .answer))
+  pub refusedStart : (m t l : List ℕ) → isRefused (shown (started m t setting .answer)) ≡ true →
+      reportOf m t l .text ≡ header ++ reportLine 0 startName (shown (started m t setting .answer))
   -- whether the start is accepted is known from the image's length alone, before the list is looked at
   pub beforeTheList : (i t : List ℕ) (n : ℕ) → n ≤ length i → length t ≡ trackLength →
-      looksAtList n ≡ not (isRefused (shown (started (take (memoryLength n) i) t 0 .answer)))
+      looksAtList n ≡ not (isRefused (shown (started (take (memoryLength n) i) t setting .answer)))
   pub plain : (m t l : List ℕ) → Accepted checker (session m t l) →
       map unlessRefused (lines m t l) ≡ map plainAnswer (plainRunOf checker (session m t l))
   pub chip : (m t l : List ℕ) → Accepted checker (session m t l) → (n : ℕ) (first : List Move) (script : ℕ → List Move) →

@@ -2,6 +2,7 @@
 ghost use mathlib.Core.Path.{_≡_};
 ghost use Prim.Native.Nat.{_+_, _*_, _≤_};
 ghost use lib.ListN.{length};
+ghost use Rattle.model.specs.Limits.{oldWindow};
 ghost use Rattle.model.specs.declared.Answer.the-variants.{Done};
 ghost use Rattle.model.specs.step.Machine.{After};
 ghost use Rattle.runs.specs.Noted.{Noted};
@@ -12,6 +13,7 @@ use listing::Reason;
 use model::Answer;
 use model::Check;
 use model::Registers;
+use model::Setting;
 
 // What a call answers: how long the report is, or why there is none.
 pub enum Told {
@@ -35,7 +37,7 @@ fn memory_length(n: usize) -> usize
 pub fn looks_at_list(n: usize) -> bool
     ensures { λ r. ⌜ r ≡ looksAtList n ⌝ }
 {
-    match checks::check_start(memory_length(n), 9216, 0) { // trackLength
+    match checks::check_start(memory_length(n), 9216, Setting { root: 0 }) { // trackLength
         Check::Pass => true,
         Check::Refuse(_) => false,
     }
@@ -45,7 +47,7 @@ pub fn looks_at_list(n: usize) -> bool
 fn lines(r: Registers, m: &mut [u8], t: &mut [u32], list: &[u8], out: &mut [u8], at: usize) -> usize
     requires { ⌜ length (now list) ≤ 65536 ⌝ }
     requires { ⌜ at + (4 * length (now list) + 64) ≤ length (now out) ⌝ }
-    requires { ⌜ Noted (record { memory = now m; registers = r }) (now t) ⌝ }
+    requires { ⌜ Noted oldWindow (record { memory = now m; registers = r }) (now t) ⌝ }
     ensures { λ p. ⌜ Ran (replayed 2 (record { answer = Done 0; registers = r; memory = now (m .entry); track = now (t .entry) }) (readLines (length (now (list .entry))) 2 (now (list .entry)))) (now (out .entry)) at p (now (m .exit)) (now (t .exit)) (now (out .exit)) ⌝ }
 {
     let mut regs = r;
@@ -82,7 +84,7 @@ fn read_list(
     at: usize,
 ) -> usize
     requires { ⌜ at + 262208 ≤ length (now out) ⌝ }
-    requires { ⌜ Noted (record { memory = now m; registers = r }) (now t) ⌝ }
+    requires { ⌜ Noted oldWindow (record { memory = now m; registers = r }) (now t) ⌝ }
     ensures { λ p. ⌜ Ran (replayed 2 (record { answer = Done 0; registers = r; memory = now (m .entry); track = now (t .entry) }) (readList (now (list .entry)))) (now (out .entry)) at p (now (m .exit)) (now (t .exit)) (now (out .exit)) ⌝ }
 {
     if listing::too_long(list) {
@@ -99,7 +101,7 @@ fn body(m: &mut [u8], t: &mut [u32], list: &[u8], out: &mut [u8], at: usize) -> 
     requires { ⌜ at + 262208 ≤ length (now out) ⌝ }
     ensures { λ p. ⌜ Ran (bodyOf (now (m .entry)) (now (t .entry)) (now (list .entry))) (now (out .entry)) at p (now (m .exit)) (now (t .exit)) (now (out .exit)) ⌝ }
 {
-    let begun = machine::start(m, t, 0);
+    let begun = machine::start(m, t, Setting { root: 0 });
     let r = begun.registers;
     let answer = begun.answer;
     match answer {

@@ -3,15 +3,17 @@ use Prim.Native.Nat.{ℕ}
 use mathlib.Core.Path.{_≡_, refl, sym, ap, _∙_, subst}
 use mathlib.Core.Bool.{Bool, true, false, cond}
 use mathlib.Core.List.{List}
+use Rattle.model.specs.Limits.{oldWindow}
 use Rattle.model.specs.declared.Access.the-variants.{Physical}
 use Rattle.model.specs.declared.Answer.{Answer}
 use Rattle.model.specs.declared.Answer.the-variants.{Done}
 use Rattle.model.specs.declared.Registers.{Registers}
+use Rattle.model.specs.declared.Tables.{Tables}
 use Rattle.model.specs.declared.Returned.{Returned}
 use Rattle.model.specs.declared.Size.{Size}
 use Rattle.model.specs.step.Memory.{bytesOf, writtenAt}
 use Rattle.model.specs.step.Track.{noteTrack}
-use Rattle.model.specs.step.Machine.{After, Gives, writeTo}
+use Rattle.model.specs.step.Machine.{After, Gives, tablesOf, writeTo}
 use Rattle.transfer.proofs.Laws.{regive}
 use Rattle.runs.specs.Quiet.{quiet}
 use Rattle.runs.specs.Step.{noPage, everyPage, afterWrite, noteExtent, notedSoFar}
@@ -28,20 +30,20 @@ pub finished : (y : After) (x : Returned) (r : Registers) (m t : List ℕ) → x
 finished y x r m t p e = subst (λ (z : Returned). Gives y z m t) (sym p) (left y (Done 0) r m t e)
 
 -- the track after a test that said that a store is quiet, and after one that said that it is not
-pub kept : {r q : Bool} (l t : List ℕ) (root c : ℕ) → r ≡ q → r ≡ true → t ≡ noteExtent (cond q noPage everyPage) l root c t
-kept l t root c p e = ap (λ (b : Bool). noteExtent (cond b noPage everyPage) l root c t) (sym e ∙ p)
+pub kept : {r q : Bool} (w : ℕ) (l t : List ℕ) (tables : Tables) (c : ℕ) → r ≡ q → r ≡ true → t ≡ noteExtent w (cond q noPage everyPage) l tables c t
+kept w l t tables c p e = ap (λ (b : Bool). noteExtent w (cond b noPage everyPage) l tables c t) (sym e ∙ p)
 
-pub noted : {r q : Bool} (l t u : List ℕ) (root c : ℕ) → r ≡ q → r ≡ false → u ≡ noteTrack l root c t → u ≡ noteExtent (cond q noPage everyPage) l root c t
-noted l t u root c p e f = f ∙ ap (λ (b : Bool). noteExtent (cond b noPage everyPage) l root c t) (sym e ∙ p)
+pub noted : {r q : Bool} (w : ℕ) (l t u : List ℕ) (tables : Tables) (c : ℕ) → r ≡ q → r ≡ false → u ≡ noteTrack w l tables c t → u ≡ noteExtent w (cond q noPage everyPage) l tables c t
+noted w l t u tables c p e f = f ∙ ap (λ (b : Bool). noteExtent w (cond b noPage everyPage) l tables c t) (sym e ∙ p)
 
 -- a store: memory written, and the track noted as it calls for
 pub stored : (size : Size) (p v : ℕ) (r : Registers) (m t l u : List ℕ) → l ≡ writtenAt size m p v →
-    u ≡ noteExtent (cond (quiet m (r .root) p (bytesOf size)) noPage everyPage) l (r .root) (r .context) t →
-    Gives (notedSoFar (afterWrite (Physical p) size (r .root) m) (writeTo (Physical p) size v r m t) t) (record { answer = Done 0; registers = r }) l u
+    u ≡ noteExtent oldWindow (cond (quiet oldWindow m (tablesOf r) p (bytesOf size)) noPage everyPage) l (tablesOf r) (r .context) t →
+    Gives (notedSoFar oldWindow (afterWrite oldWindow (Physical p) size (tablesOf r) m) (writeTo (Physical p) size v r m t) t) (record { answer = Done 0; registers = r }) l u
 stored size p v r m t l u e f = record {
   answer = refl;
   shows = refl;
   registers = refl;
   memory = e;
-  track = f ∙ ap (λ (z : List ℕ). noteExtent (cond (quiet m (r .root) p (bytesOf size)) noPage everyPage) z (r .root) (r .context) t) e;
+  track = f ∙ ap (λ (z : List ℕ). noteExtent oldWindow (cond (quiet oldWindow m (tablesOf r) p (bytesOf size)) noPage everyPage) z (tablesOf r) (r .context) t) e;
 }

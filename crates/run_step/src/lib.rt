@@ -3,10 +3,11 @@
 ghost use mathlib.Core.Path.{_≡_};
 ghost use mathlib.Core.Bool.{cond};
 ghost use lib.Dec.{eqb};
+ghost use Rattle.model.specs.Limits.{oldWindow};
 ghost use Rattle.model.specs.declared.Answer.the-variants.{Done};
 ghost use Rattle.model.specs.step.Memory.{bytesOf, writtenAt};
 ghost use Rattle.model.specs.step.Track.{flushPage, flushPageIn, flushContext};
-ghost use Rattle.model.specs.step.Machine.{Gives, readFrom, writeTo};
+ghost use Rattle.model.specs.step.Machine.{Gives, readFrom, writeTo, tablesOf};
 ghost use Rattle.runs.specs.Quiet.{quiet};
 ghost use Rattle.runs.specs.Step.{noPage, everyPage, afterWrite, noteOnePage, noteExtent, notedSoFar, runOperate, runStepped};
 use access::access_at;
@@ -18,18 +19,20 @@ use model::Access;
 use model::Answer;
 use model::Check;
 use model::Kind;
+use model::OLD_WINDOW;
 use model::Operation;
 use model::Purpose;
 use model::Refusal;
 use model::Registers;
 use model::Returned;
 use model::Size;
+use model::Tables;
 use page_noting::note_page;
 use transfer::value_of;
 
 // A read or a fetch, by what its access comes to: the track stays as lent.
 fn read_from(x: Access, size: Size, r: Registers, m: &[u8], t: &[u32]) -> Returned
-    ensures { λ y. ⌜ Gives (notedSoFar noPage (readFrom x size r (now (m .entry)) (now (t .entry))) (now (t .entry))) y (now (m .entry)) (now (t .entry)) ⌝ }
+    ensures { λ y. ⌜ Gives (notedSoFar oldWindow noPage (readFrom x size r (now (m .entry)) (now (t .entry))) (now (t .entry))) y (now (m .entry)) (now (t .entry)) ⌝ }
 {
     match x {
         Access::Stale => Returned {
@@ -51,19 +54,19 @@ fn read_from(x: Access, size: Size, r: Registers, m: &[u8], t: &[u32]) -> Return
 }
 
 // Stores, and notes every page unless the store is quiet.
-fn store(at: usize, size: Size, v: u32, root: u32, context: u32, m: &mut [u8], t: &mut [u32])
-    ensures { λ _. ⌜ (now (m .exit) ≡ writtenAt size (now (m .entry)) at v) × (now (t .exit) ≡ noteExtent (cond (quiet (now (m .entry)) root at (bytesOf size)) noPage everyPage) (now (m .exit)) root context (now (t .entry))) ⌝ }
+fn store(at: usize, size: Size, v: u32, r: Registers, m: &mut [u8], t: &mut [u32])
+    ensures { λ _. ⌜ (now (m .exit) ≡ writtenAt size (now (m .entry)) at v) × (now (t .exit) ≡ noteExtent oldWindow (cond (quiet oldWindow (now (m .entry)) (tablesOf r) at (bytesOf size)) noPage everyPage) (now (m .exit)) (tablesOf r) (r .context) (now (t .entry))) ⌝ }
 {
-    if quiet::is_quiet(m, root, at, size) {
+    if quiet::is_quiet(OLD_WINDOW, m, Tables { root: r.root }, at, size) {
         memory::store(m, at, size, v);
         return;
     }
-    transfer::store_and_note(at, size, v, root, context, m, t);
+    transfer::store_and_note(at, size, v, r, m, t);
 }
 
 // A write, by what its access comes to.
 fn write_to(x: Access, size: Size, v: u32, r: Registers, m: &mut [u8], t: &mut [u32]) -> Returned
-    ensures { λ y. ⌜ Gives (notedSoFar (afterWrite x size (r .root) (now (m .entry))) (writeTo x size v r (now (m .entry)) (now (t .entry))) (now (t .entry))) y (now (m .exit)) (now (t .exit)) ⌝ }
+    ensures { λ y. ⌜ Gives (notedSoFar oldWindow (afterWrite oldWindow x size (tablesOf r) (now (m .entry))) (writeTo x size v r (now (m .entry)) (now (t .entry))) (now (t .entry))) y (now (m .exit)) (now (t .exit)) ⌝ }
 {
     match x {
         Access::Stale => Returned {
@@ -75,7 +78,7 @@ fn write_to(x: Access, size: Size, v: u32, r: Registers, m: &mut [u8], t: &mut [
             registers: r,
         },
         Access::Physical(p) => {
-            store(p, size, v, r.root, r.context, m, t);
+            store(p, size, v, r, m, t);
             Returned {
                 answer: Answer::Done(0),
                 registers: r,
@@ -85,28 +88,31 @@ fn write_to(x: Access, size: Size, v: u32, r: Registers, m: &mut [u8], t: &mut [
 }
 
 // Empties the sets of a page in every row, and notes it again.
-fn flush_page(page: usize, root: u32, context: u32, m: &[u8], t: &mut [u32])
-    ensures { λ _. ⌜ now (t .exit) ≡ noteOnePage (now (m .entry)) root context page (flushPage page (now (t .entry))) ⌝ }
+fn flush_page(page: usize, r: Registers, m: &[u8], t: &mut [u32])
+    ensures { λ _. ⌜ now (t .exit) ≡ noteOnePage oldWindow (now (m .entry)) (tablesOf r) (r .context) page (flushPage oldWindow page (now (t .entry))) ⌝ }
 {
-    track::flush_page(t, page);
-    note_page(m, root, t, context as usize, page);
+    track::flush_page(OLD_WINDOW, t, page);
+    let tables = Tables { root: r.root };
+    note_page(OLD_WINDOW, m, tables, t, r.context as usize, page);
 }
 
 // Empties the set of a page in a context and its global set, and notes it again.
-fn flush_page_in(named: u32, page: usize, root: u32, context: u32, m: &[u8], t: &mut [u32])
-    ensures { λ _. ⌜ now (t .exit) ≡ noteOnePage (now (m .entry)) root context page (flushPageIn named page (now (t .entry))) ⌝ }
+fn flush_page_in(named: u32, page: usize, r: Registers, m: &[u8], t: &mut [u32])
+    ensures { λ _. ⌜ now (t .exit) ≡ noteOnePage oldWindow (now (m .entry)) (tablesOf r) (r .context) page (flushPageIn oldWindow named page (now (t .entry))) ⌝ }
 {
-    track::flush_page_in(t, named as usize, page);
-    note_page(m, root, t, context as usize, page);
+    track::flush_page_in(OLD_WINDOW, t, named as usize, page);
+    let tables = Tables { root: r.root };
+    note_page(OLD_WINDOW, m, tables, t, r.context as usize, page);
 }
 
 // Empties the sets of a context, and notes every page again if it is the current one.
-fn flush_context(named: u32, root: u32, context: u32, m: &[u8], t: &mut [u32])
-    ensures { λ _. ⌜ now (t .exit) ≡ noteExtent (cond (eqb named context) everyPage noPage) (now (m .entry)) root context (flushContext named (now (t .entry))) ⌝ }
+fn flush_context(named: u32, r: Registers, m: &[u8], t: &mut [u32])
+    ensures { λ _. ⌜ now (t .exit) ≡ noteExtent oldWindow (cond (eqb named (r .context)) everyPage noPage) (now (m .entry)) (tablesOf r) (r .context) (flushContext oldWindow named (now (t .entry))) ⌝ }
 {
-    track::flush_context(t, named as usize);
-    if named == context {
-        noting::note_rows(m, root, t, context as usize);
+    track::flush_context(OLD_WINDOW, t, named as usize);
+    if named == r.context {
+        let tables = Tables { root: r.root };
+        noting::note_rows(OLD_WINDOW, m, tables, t, r.context as usize);
     }
 }
 
@@ -151,15 +157,15 @@ fn operate(kind: Kind, o: Operation, r: Registers, m: &mut [u8], t: &mut [u32]) 
         Kind::Mode => done(with_mode(r, o.a)),
         Kind::All => carry_out(kind, o, r, m, t),
         Kind::Addr => {
-            flush_page(o.a as usize / 4096, r.root, r.context, m, t); // pageSize
+            flush_page(o.a as usize / 4096, r, m, t); // pageSize
             done(r)
         }
         Kind::Ctx => {
-            flush_context(o.a, r.root, r.context, m, t);
+            flush_context(o.a, r, m, t);
             done(r)
         }
         Kind::AddrCtx => {
-            flush_page_in(o.b, o.a as usize / 4096, r.root, r.context, m, t); // pageSize
+            flush_page_in(o.b, o.a as usize / 4096, r, m, t); // pageSize
             done(r)
         }
         Kind::Fetch => read_from(

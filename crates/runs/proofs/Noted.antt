@@ -4,13 +4,14 @@ use mathlib.Core.Path.{_≡_, refl, sym, ap, ap₂, _∙_, subst, subst₂}
 use mathlib.Core.Bool.{Bool, true, false, cond, true≢false}
 use mathlib.Core.List.{List, [], _∷_}
 use lib.ListN.{length}
-use Rattle.model.specs.Limits.{pageSize, rowSize}
+use Rattle.model.specs.Limits.{pageSize, oldWindow, rowSize}
 use Rattle.model.specs.Numbers.{Result, ok, fault, refused, shown, refusalNumber}
 use Rattle.model.specs.reference.Rules.{Translation, found, failed, bits, State, fresh, outcome, carriedOut, Scope, scopeOf, sameScope, flushes, Kept, empty, one, several, wordOf, entryOf, kept, same, addTo, noted, notedIn, wordAfter, contexts, trackWord, hasRow}
 use Rattle.model.specs.reference.Runs.{last, next, checkerRun, isRefused}
 use Rattle.model.specs.step.Machine.{After, started}
 use Rattle.model.specs.Demands.{after}
 use Rattle.model.specs.Invisible.{Session, begun, Accepted, atEnd, checker}
+use Rattle.model.specs.declared.Setting.{Setting}
 use Rattle.model.specs.declared.Operation.{Operation}
 use Rattle.model.specs.declared.Entry.{Entry}
 use Rattle.runs.specs.Noted.{Noted}
@@ -54,50 +55,51 @@ again s u p w = noted-twice u (s .registers .context) (outcome s (p * pageSize))
 
 -- ── Throughout a run ──
 
-same-whole : (t v : List ℕ) → length v ≡ length t → length t ≡ rowSize * (contexts t + 1) → length v ≡ rowSize * (contexts v + 1)
+same-whole : (w : ℕ) (t v : List ℕ) → length v ≡ length t → length t ≡ rowSize w * (contexts w t + 1) → length v ≡ rowSize w * (contexts w v + 1)
 unfolding contexts
-same-whole t v e w = e ∙ w ∙ ap (λ n. rowSize * (n / rowSize - 1 + 1)) (sym e)
+same-whole w t v e h = e ∙ h ∙ ap (λ n. rowSize w * (n / rowSize w - 1 + 1)) (sym e)
 
-pub same-contexts : (t v : List ℕ) → length v ≡ length t → contexts t ≡ contexts v
+pub same-contexts : (w : ℕ) (t v : List ℕ) → length v ≡ length t → contexts w t ≡ contexts w v
 unfolding contexts
-same-contexts t v e = ap (λ n. n / rowSize - 1) (sym e)
+same-contexts w t v e = ap (λ n. n / rowSize w - 1) (sym e)
 
-current-start : (m t : List ℕ) (root : ℕ) → isRefused (shown (started m t root .answer)) ≡ false → started m t root .registers .context < contexts (started m t root .track)
-current-start m t root q = go (begun-start m t root)
-  where
-    accepted : stateOf (started m t root) ≡ fresh m root
-    accepted = begins m t root q
+module _ (m t : List ℕ) (g : Setting) (q : isRefused (shown (started m t g .answer)) ≡ false) where
+  accepted : stateOf (started m t g) ≡ fresh m g
+  accepted = begins m t g q
 
-    context-0 : started m t root .registers .context ≡ 0
-    context-0 = ap (λ (s : State). s .registers .context) accepted ∙ (unfold fresh in refl)
+  context-0 : started m t g .registers .context ≡ 0
+  context-0 = ap (λ (s : State). s .registers .context) accepted ∙ (unfold fresh in refl)
 
-    go : Begun (started m t root) m t root → started m t root .registers .context < contexts (started m t root .track)
-    go (back n e) = absurd (start-not-given m t root q (refusalNumber n) (start-exactly m t root (refusalNumber n) .0 (ap (λ (z : After). shown (z .answer)) e)))
-    go (done a k e) = rw (context-0, sym (same-contexts t (started m t root .track) (start-track-length m t root))) k
+  current-start : started m t g .registers .context < contexts oldWindow (started m t g .track)
+  current-start = go (begun-start m t g)
+    where
+      go : Begun (started m t g) m t g → started m t g .registers .context < contexts oldWindow (started m t g .track)
+      go (back n e) = absurd (start-not-given m t g q (refusalNumber n) (start-exactly m t g (refusalNumber n) .0 (ap (λ (z : After). shown (z .answer)) e)))
+      go (done a k e) = rw (context-0, sym (same-contexts oldWindow t (started m t g .track) (start-track-length m t g))) k
 
-pub noted-start : (m t : List ℕ) (root : ℕ) → isRefused (shown (started m t root .answer)) ≡ false → Noted (stateOf (started m t root)) (started m t root .track)
-noted-start m t root q = record {
-  current = current-start m t root q;
-  whole = same-whole t (started m t root .track) (start-track-length m t root) (start-lengths m t root (start-not-given m t root q));
-  stays = λ u p h k.
-      let word = start-words m t root (start-not-given m t root q) u p (sym (same-has (started m t root .track) t (start-track-length m t root) u) ∙ h) k in
-      ap₂ (λ (s : State) (w : ℕ). notedIn s u p w) (begins m t root q) word ∙ again (fresh m root) u p 0 ∙ sym word;
-}
+  pub noted-start : Noted oldWindow (stateOf (started m t g)) (started m t g .track)
+  noted-start = record {
+    whole = same-whole oldWindow t (started m t g .track) (start-track-length m t g) (start-lengths m t g (start-not-given m t g q));
+    current = current-start;
+    stays = λ u p h k.
+        let word = start-words m t g (start-not-given m t g q) u p (sym (same-has oldWindow (started m t g .track) t (start-track-length m t g) u) ∙ h) k in
+        ap₂ (λ (s : State) (w : ℕ). notedIn s u p w) accepted word ∙ again (fresh m g) u p 0 ∙ sym word;
+  }
 
 -- an operation carried out, and one refused
-noted-carried : (s : State) (t : List ℕ) (o : Operation) → isRefused (shown (after (callAt s t o) .answer)) ≡ false → Noted s t →
-    Noted (stateOf (after (callAt s t o))) (after (callAt s t o) .track)
+noted-carried : (s : State) (t : List ℕ) (o : Operation) → isRefused (shown (after (callAt s t o) .answer)) ≡ false → Noted oldWindow s t →
+    Noted oldWindow (stateOf (after (callAt s t o))) (after (callAt s t o) .track)
 unfolding wordAfter
 noted-carried s t o q n =
     let x = callAt s t o in
     let left = ap (λ (y : Result × State). y .1) (plain x (not-given x q)) in
     record {
-      whole = same-whole t (after x .track) (track-length x) (n .whole);
-      current = subst (λ k. after x .registers .context < k) (same-contexts t (after x .track) (track-length x)) (call-passes x (not-given x q) .left);
+      whole = same-whole oldWindow t (after x .track) (track-length x) (n .whole);
+      current = subst (λ k. after x .registers .context < k) (same-contexts oldWindow t (after x .track) (track-length x)) (call-passes x (not-given x q) .left);
       stays = λ u p h k.
-          let word = words x (not-given x q) u p (sym (same-has (after x .track) t (track-length x) u) ∙ h) k in
+          let word = words x (not-given x q) u p (sym (same-has oldWindow (after x .track) t (track-length x) u) ∙ h) k in
           ap₂ (λ (z : State) (w : ℕ). notedIn z u p w) left word
-          ∙ again (carriedOut o s .1) u p (cond (flushes (o .kind) o u p) 0 (trackWord t u p))
+          ∙ again (carriedOut o s .1) u p (cond (flushes (o .kind) o u p) 0 (trackWord oldWindow t u p))
           ∙ sym word;
     }
 
@@ -115,18 +117,18 @@ left-alone s t o q =
     let l = unchanged (callAt s t o) (r .0) (r .1) in
     (λ i. record { memory = l .memory i; registers = l .registers i }, l .track)
 
-pub noted-next : (s : State) (t : List ℕ) (o : Operation) → Noted s t → Noted (stateOf (after (callAt s t o))) (after (callAt s t o) .track)
+pub noted-next : (s : State) (t : List ℕ) (o : Operation) → Noted oldWindow s t → Noted oldWindow (stateOf (after (callAt s t o))) (after (callAt s t o) .track)
 noted-next s t o n = go (isRefused (shown (after (callAt s t o) .answer))) refl
   where
-    go : (b : Bool) → isRefused (shown (after (callAt s t o) .answer)) ≡ b → Noted (stateOf (after (callAt s t o))) (after (callAt s t o) .track)
+    go : (b : Bool) → isRefused (shown (after (callAt s t o) .answer)) ≡ b → Noted oldWindow (stateOf (after (callAt s t o))) (after (callAt s t o) .track)
     go false q = noted-carried s t o q n
-    go true q = let l = left-alone s t o q in subst₂ Noted (sym (l .0)) (sym (l .1)) n
+    go true q = let l = left-alone s t o q in subst₂ (Noted oldWindow) (sym (l .0)) (sym (l .1)) n
 
-noted-run : (x : After) (os : List Operation) → Noted (stateOf x) (x .track) →
-    Noted (stateOf (last x (checkerRun checker x os))) (last x (checkerRun checker x os) .track)
+noted-run : (x : After) (os : List Operation) → Noted oldWindow (stateOf x) (x .track) →
+    Noted oldWindow (stateOf (last x (checkerRun checker x os))) (last x (checkerRun checker x os) .track)
 unfolding last checkerRun
 noted-run x [] n = n
 noted-run x (o ∷ os) n = noted-run (next checker o x) os (noted-next (stateOf x) (x .track) o n)
 
-pub noted-at-end : (x : Session) → Accepted checker x → Noted (stateOf (atEnd checker x)) (atEnd checker x .track)
-noted-at-end x acc = noted-run (begun checker x) (x .operations) (noted-start (x .image) (x .track) (x .root) acc)
+pub noted-at-end : (x : Session) → Accepted checker x → Noted oldWindow (stateOf (atEnd checker x)) (atEnd checker x .track)
+noted-at-end x acc = noted-run (begun checker x) (x .operations) (noted-start (x .image) (x .track) (x .setting) acc)

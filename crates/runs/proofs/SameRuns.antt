@@ -6,13 +6,13 @@ use mathlib.Core.List.{List, [], _∷_}
 use native.Mathlib.Omega.{arith}
 use lib.ListN.{length}
 use borrow.Author.Tests.{leb-true}
-use Rattle.model.specs.Limits.{pageSize, rowSize, sectionSize}
+use Rattle.model.specs.Limits.{pageSize, oldWindow, rowSize, sectionSize, addressLimit}
 use Rattle.model.specs.Numbers.{Result, fault, shown}
 use Rattle.model.specs.reference.Rules.{Translation, found, inMemory, walk, physical, State, stored, aligned, touched, ruled, translated, access, accessSize, among, effect, outcome, carriedOut, noted, notedIn, Scope, flushes, wordAfter, hasRow, trackWord}
 use Rattle.model.specs.reference.Runs.{next, checkerRun, isRefused}
 use Rattle.model.specs.step.Memory.{bytesOf}
 use Rattle.model.specs.step.Checks.{firstFailing}
-use Rattle.model.specs.step.Machine.{After, sizeOf, accessAt, writeTo, writeStep, operate, afterChecks, stepped}
+use Rattle.model.specs.step.Machine.{After, tablesOf, sizeOf, accessAt, writeTo, writeStep, operate, afterChecks, stepped}
 use Rattle.model.specs.Demands.{after}
 use Rattle.model.specs.Invisible.{begun, checker}
 use Rattle.model.specs.declared.Registers.{Registers}
@@ -30,7 +30,7 @@ use Rattle.model.proofs.Calls.{checksOf, plain, words, track-length}
 use Rattle.model.proofs.Effect.{state}
 use Rattle.model.proofs.Instance.{stateOf}
 use Rattle.model.proofs.Kept.{callAt, not-given}
-use Rattle.runs.specs.Used.{Among, Untouched}
+use Rattle.runs.specs.Used.{windowWords, Among, Untouched}
 use Rattle.runs.specs.Quiet.{quiet}
 use Rattle.runs.specs.Step.{runOperate, runAfterChecks, runStepped}
 use Rattle.runs.specs.Same.{QuietStores, Alike, SameRuns, runChecker, reached}
@@ -41,7 +41,7 @@ use Rattle.runs.proofs.Noted.{left-alone, noted-start, noted-next, note
 use Rattle.runs.proofs.SameLaws.{same-tracks, settled, settled-store, step-same}
 
 pub quiet-stores : QuietStores
-quiet-stores = record { exactly = quiet-exactly; walks = λ m root at n v a inside q h. quiet-walks m root at n v a q h }
+quiet-stores = record { exactly = quiet-exactly; walks = λ w m tables at n v a inside q h. quiet-walks w m tables at n v a q h }
 
 -- ── Any lent state ──
 
@@ -56,38 +56,38 @@ alike o r m t = go (firstFailing (checksOf (record { operation = o; registers = 
 -- ── From an accepted start ──
 
 -- a quiet store leaves the track
-store-leaves : (o : Operation) (r : Registers) (m t : List ℕ) (p : ℕ) → Noted (state r m) t → o .kind ≡ Write →
-    accessAt r m t ToWrite (sizeOf (o .b)) (o .a) ≡ Physical p → quiet m (r .root) p (bytesOf (sizeOf (o .b))) ≡ true → stepped o r m t .track ≡ t
+store-leaves : (o : Operation) (r : Registers) (m t : List ℕ) (p : ℕ) → Noted oldWindow (state r m) t → o .kind ≡ Write →
+    accessAt r m t ToWrite (sizeOf (o .b)) (o .a) ≡ Physical p → quiet oldWindow m (tablesOf r) p (bytesOf (sizeOf (o .b))) ≡ true → stepped o r m t .track ≡ t
 unfolding stepped
 store-leaves o r m t p n k e q = go (firstFailing (checksOf (record { operation = o; registers = r; memory = m; track = t })))
   where
     by-kind : operate Write o r m t .track ≡ t
-    by-kind = unfold operate writeStep in (ap (λ x. writeTo x (sizeOf (o .b)) (o .c) r m t .track) e ∙ settled-store r m t n (sizeOf (o .b)) p (o .c) q)
+    by-kind = unfold operate writeStep in (ap (λ x. writeTo x (sizeOf (o .b)) (o .c) r m t .track) e ∙ settled-store oldWindow r m t n (sizeOf (o .b)) p (o .c) q)
 
     go : (y : Check) → afterChecks y o r m t .track ≡ t
     go (Refuse c) = refl
     go Pass = ap (λ x. operate x o r m t .track) k ∙ by-kind
 
 -- an operation after which each page of the window is walked as before, that leaves the context as it was and flushes nothing, leaves the track
-module _ (s : State) (t : List ℕ) (n : Noted s t) (o : Operation) where
+module _ (s : State) (t : List ℕ) (n : Noted oldWindow s t) (o : Operation) where
   abbrev y : After
   y = after (callAt s t o)
 
   abbrev SameWalks : Type 0
-  SameWalks = (p : ℕ) → p < rowSize → walk (y .memory) (y .registers .root) (p * pageSize) ≡ walk (s .memory) (s .registers .root) (p * pageSize)
+  SameWalks = (p : ℕ) → p < rowSize oldWindow → walk (y .memory) (y .registers .root) (p * pageSize) ≡ walk (s .memory) (s .registers .root) (p * pageSize)
 
   abbrev NoFlush : Type 0
   NoFlush = (u : Scope) (page : ℕ) → flushes (o .kind) o u page ≡ false
 
   word-stays : isRefused (shown (y .answer)) ≡ false → SameWalks → y .registers .context ≡ s .registers .context → NoFlush →
-      (u : Scope) (p : ℕ) → hasRow t u ≡ true → p < rowSize → trackWord (y .track) u p ≡ trackWord t u p
+      (u : Scope) (p : ℕ) → hasRow oldWindow t u ≡ true → p < rowSize oldWindow → trackWord oldWindow (y .track) u p ≡ trackWord oldWindow t u p
   unfolding wordAfter notedIn outcome
   word-stays q ew ec nothing u p has h =
       words (callAt s t o) (not-given (callAt s t o) q) u p has h
-      ∙ ap (λ (z : State). notedIn z u p (cond (flushes (o .kind) o u p) 0 (trackWord t u p))) (sym left)
-      ∙ ap (λ b. notedIn (stateOf y) u p (cond b 0 (trackWord t u p))) (nothing u p)
-      ∙ ap (λ x. noted u (y .registers .context) x (trackWord t u p)) (ew p h)
-      ∙ ap (λ c. noted u c (walk (s .memory) (s .registers .root) (p * pageSize)) (trackWord t u p)) ec
+      ∙ ap (λ (z : State). notedIn z u p (cond (flushes (o .kind) o u p) 0 (trackWord oldWindow t u p))) (sym left)
+      ∙ ap (λ b. notedIn (stateOf y) u p (cond b 0 (trackWord oldWindow t u p))) (nothing u p)
+      ∙ ap (λ x. noted u (y .registers .context) x (trackWord oldWindow t u p)) (ew p h)
+      ∙ ap (λ c. noted u c (walk (s .memory) (s .registers .root) (p * pageSize)) (trackWord oldWindow t u p)) ec
       ∙ n .stays u p has h
     where
       left : stateOf y ≡ carriedOut o s .1
@@ -98,7 +98,7 @@ module _ (s : State) (t : List ℕ) (n : Noted s t) (o : Operation) where
     where
       go : (b : Bool) → isRefused (shown (y .answer)) ≡ b → y .track ≡ t
       go true q = left-alone s t o q .1
-      go false q = same-tracks t (y .track) t (n .whole) (track-length (callAt s t o)) refl (word-stays q (h q .0) (h q .1) nothing)
+      go false q = same-tracks oldWindow t (y .track) t (n .whole) (track-length (callAt s t o)) refl (word-stays q (h q .0) (h q .1) nothing)
 
   leaves-track : y .memory ≡ s .memory → y .registers .root ≡ s .registers .root → y .registers .context ≡ s .registers .context → NoFlush → y .track ≡ t
   leaves-track em er ec nothing = walks-leave (λ q. (λ p h. ap₂ (λ (l : List ℕ) (root : ℕ). walk l root (p * pageSize)) em er, ec)) nothing
@@ -138,9 +138,14 @@ write-store o s e k q =
     size : accessSize o ≡ o .b
     size = unfold accessSize among in ap (λ (x : Kind). cond (among x (Fetch ∷ [])) 4 (o .b)) k
 
+-- a page of the window lies in one of its MiB
+page-in-window : (w p : ℕ) → p < rowSize w → p * pageSize / sectionSize < windowWords w
+unfolding rowSize windowWords addressLimit
+page-in-window w p h = omega (arith, h)
+
 -- a store that touches no used byte leaves the track
-untouched-leaves : (s : State) (t : List ℕ) → Noted s t → (o : Operation) (e : Entry) → o .kind ≡ Write → walk (s .memory) (s .registers .root) (o .a) ≡ found e →
-    Untouched (s .memory) (s .registers .root) (physical e (o .a)) (o .b) → after (callAt s t o) .track ≡ t
+untouched-leaves : (s : State) (t : List ℕ) → Noted oldWindow s t → (o : Operation) (e : Entry) → o .kind ≡ Write → walk (s .memory) (s .registers .root) (o .a) ≡ found e →
+    Untouched oldWindow (s .memory) (s .registers .root) (physical e (o .a)) (o .b) → after (callAt s t o) .track ≡ t
 untouched-leaves s t n o e k q apart =
     walks-leave s t n o (λ r. by (left r) (write-store o s e k (unfold outcome in q))) (λ u page. ap (λ (x : Kind). flushes x o u page) k ∙ (unfold flushes in refl))
   where
@@ -153,17 +158,17 @@ untouched-leaves s t n o e k q apart =
         let h : at + size ≤ length (s .memory) = leb-true (at + size) (length (s .memory)) (unfold inMemory in p) in
         omega (arith, l, h)
 
-    same : inMemory (s .memory) (physical e (o .a)) (o .b) ≡ true → (p : ℕ) → p < rowSize →
+    same : inMemory (s .memory) (physical e (o .a)) (o .b) ≡ true → (p : ℕ) → p < rowSize oldWindow →
         walk (stored (s .memory) (physical e (o .a)) (o .b) (o .c)) (s .registers .root) (p * pageSize) ≡ walk (s .memory) (s .registers .root) (p * pageSize)
     same i p h = same-walk (s .memory) (physical e (o .a)) (o .b) (o .c) (s .registers .root) (p * pageSize)
-        (λ b among within serves. apart b among (record { mib = p * pageSize / sectionSize; inWindow = omega (arith, h); serves = serves; inside = within }))
+        (λ b among within serves. apart b among (record { mib = p * pageSize / sectionSize; inWindow = page-in-window oldWindow p h; serves = serves; inside = within }))
 
     by : stateOf (after (callAt s t o)) ≡ carriedOut o s .1 → Stored s (physical e (o .a)) (o .b) (o .c) (carriedOut o s .1) →
         SameWalks s t n o × (after (callAt s t o) .registers .context ≡ s .registers .context)
     by l (nowhere z) = (λ p h. ap (λ (x : State). walk (x .memory) (x .registers .root) (p * pageSize)) (l ∙ z), ap (λ (x : State). x .registers .context) (l ∙ z))
     by l (there i z) = (λ p h. ap (λ (x : State). walk (x .memory) (x .registers .root) (p * pageSize)) (l ∙ z) ∙ same i p h, ap (λ (x : State). x .registers .context) (l ∙ z))
 
-same-run : (x : After) (os : List Operation) → Noted (stateOf x) (x .track) → checkerRun runChecker x os ≡ checkerRun checker x os
+same-run : (x : After) (os : List Operation) → Noted oldWindow (stateOf x) (x .track) → checkerRun runChecker x os ≡ checkerRun checker x os
 unfolding checkerRun
 same-run x [] n = refl
 same-run x (o ∷ os) n =
@@ -174,10 +179,10 @@ same-run x (o ∷ os) n =
 pub same-runs : SameRuns
 same-runs = record {
   alike = alike;
-  noted = λ x acc. settled (reached x .registers) (reached x .memory) (reached x .track) (noted-at-end x acc);
+  noted = λ x acc. settled oldWindow (reached x .registers) (reached x .memory) (reached x .track) (noted-at-end x acc);
   untouched = λ x acc o e k q apart. untouched-leaves (stateOf (reached x)) (reached x .track) (noted-at-end x acc) o e k q apart;
   quietStore = λ x acc o p k e q. store-leaves o (reached x .registers) (reached x .memory) (reached x .track) p (noted-at-end x acc) k e q;
   leaves = λ x acc o em er ec nothing. leaves-track (stateOf (reached x)) (reached x .track) (noted-at-end x acc) o em er ec nothing;
   step = λ x acc o. step-same o (reached x .registers) (reached x .memory) (reached x .track) (noted-at-end x acc);
-  run = λ x acc. same-run (begun checker x) (x .operations) (noted-start (x .image) (x .track) (x .root) acc);
+  run = λ x acc. same-run (begun checker x) (x .operations) (noted-start (x .image) (x .track) (x .setting) acc);
 }

@@ -8,6 +8,7 @@ use lib.ListN.{length, getD, set, length-set}
 use lib.Seq.{getD-set-other}
 use Rattle.model.specs.Limits.{addressLimit, sectionSize}
 use Rattle.model.specs.reference.Rules.{inMemory, walk, stored}
+use Rattle.model.specs.declared.Tables.{Tables}
 use Rattle.runs.specs.Used.{Among, Serves}
 use Rattle.runs.specs.Quiet.{quiet}
 use Rattle.runs.proofs.UsedLaws.{quiet-apart}
@@ -35,5 +36,7 @@ pub same-walk : (m : List ℕ) (at n v root a : ℕ) → ((b : ℕ) → Among at
 same-walk m at n v root a apart =
     nothing-else m (stored m at n v) root a (stored-length n m at v) (λ b r inside. stored-byte n m at v b (λ i. apart b i inside (reads-serves m root a b r)))
 
-pub quiet-walks : (m : List ℕ) (root at n v a : ℕ) → quiet m root at n ≡ true → a < addressLimit → walk (stored m at n v) root a ≡ walk m root a
-quiet-walks m root at n v a q h = same-walk m at n v root a (λ b i inside. quiet-apart m root at n q (a / sectionSize) (omega arith) b i)
+pub quiet-walks : (w : ℕ) (m : List ℕ) (tables : Tables) (at n v a : ℕ) → quiet w m tables at n ≡ true → a < addressLimit w →
+    walk (stored m at n v) (tables .root) a ≡ walk m (tables .root) a
+unfolding addressLimit
+quiet-walks w m tables at n v a q h = same-walk m at n v (tables .root) a (λ b i inside. quiet-apart w m tables at n q (a / sectionSize) (omega arith) b i)

@@ -8,9 +8,11 @@ use native.Mathlib.Omega.{arith}
 use lib.Dec.{eqb, ltb}
 use lib.ListN.{length}
 use borrow.Author.Tests.{ltb-true, ltb-false, eqb-true, eqb-false, eq-eqb, not-true}
+use Rattle.model.specs.Limits.{addressLimit}
 use Rattle.model.specs.reference.Rules.{inMemory, value, bits}
 use Rattle.model.specs.step.Memory.{within, numberAt, loadAt}
 use Rattle.model.specs.step.Walk.{kindOf, superBit, pointerOf, sectionEntry, descriptorAt, firstOf, firstFrom}
+use Rattle.model.specs.declared.Tables.{Tables}
 use Rattle.model.specs.declared.Fault.the-variants.{FirstUnmapped}
 use Rattle.model.specs.declared.Size.the-variants.{Four}
 use Rattle.model.specs.declared.Loaded.the-variants.{Value, Outside}
@@ -137,32 +139,32 @@ record MetIn (m : List ℕ) (root k at n : ℕ) : Type 0 where
   below : mib < k
   met : Met m root mib at n
 
-tables-true : (m : List ℕ) (root at n : ℕ) → 0 < n → (k : ℕ) → touchesTables m root k at n ≡ true → MetIn m root k at n
+tables-true : (m : List ℕ) (tables : Tables) (at n : ℕ) → 0 < n → (k : ℕ) → touchesTables m tables k at n ≡ true → MetIn m (tables .root) k at n
 unfolding touchesTables
-tables-true m root at n hn zero h = absurd (true≢false (sym h))
-tables-true m root at n hn (suc k) h = go (touchesTable (firstFrom (descriptorAt m (firstPlace root k)) 0) at n) refl h (tables-true m root at n hn k)
+tables-true m tables at n hn zero h = absurd (true≢false (sym h))
+tables-true m tables at n hn (suc k) h = go (touchesTable (firstFrom (descriptorAt m (firstPlace (tables .root) k)) 0) at n) refl h (tables-true m tables at n hn k)
   where
-    go : (x : Bool) → touchesTable (firstFrom (descriptorAt m (firstPlace root k)) 0) at n ≡ x → cond x true (touchesTables m root k at n) ≡ true →
-        (touchesTables m root k at n ≡ true → MetIn m root k at n) → MetIn m root (suc k) at n
-    go true p e rest = record { mib = k; below = omega arith; met = table-true m root k at n hn (sym (table-same m (firstPlace root k) at n) ∙ p) }
+    go : (x : Bool) → touchesTable (firstFrom (descriptorAt m (firstPlace (tables .root) k)) 0) at n ≡ x → cond x true (touchesTables m tables k at n) ≡ true →
+        (touchesTables m tables k at n ≡ true → MetIn m (tables .root) k at n) → MetIn m (tables .root) (suc k) at n
+    go true p e rest = record { mib = k; below = omega arith; met = table-true m (tables .root) k at n hn (sym (table-same m (firstPlace (tables .root) k) at n) ∙ p) }
     go false p e rest =
         let z = rest e in
         let lt : z .mib < k = z .below in
         record { mib = z .mib; below = omega arith; met = z .met }
 
-tables-false : (m : List ℕ) (root at n k : ℕ) → touchesTables m root k at n ≡ false → (i : ℕ) → i < k →
-    touchesTable (firstFrom (descriptorAt m (firstPlace root i)) 0) at n ≡ false
+tables-false : (m : List ℕ) (tables : Tables) (at n k : ℕ) → touchesTables m tables k at n ≡ false → (i : ℕ) → i < k →
+    touchesTable (firstFrom (descriptorAt m (firstPlace (tables .root) i)) 0) at n ≡ false
 unfolding touchesTables
-tables-false m root at n zero h i lt = absurd (let z : ⊥ = omega arith in z)
-tables-false m root at n (suc k) h i lt = go (touchesTable (firstFrom (descriptorAt m (firstPlace root k)) 0) at n) refl h (tables-false m root at n k)
+tables-false m tables at n zero h i lt = absurd (let z : ⊥ = omega arith in z)
+tables-false m tables at n (suc k) h i lt = go (touchesTable (firstFrom (descriptorAt m (firstPlace (tables .root) k)) 0) at n) refl h (tables-false m tables at n k)
   where
-    go : (x : Bool) → touchesTable (firstFrom (descriptorAt m (firstPlace root k)) 0) at n ≡ x → cond x true (touchesTables m root k at n) ≡ false →
-        (touchesTables m root k at n ≡ false → (i : ℕ) → i < k → touchesTable (firstFrom (descriptorAt m (firstPlace root i)) 0) at n ≡ false) →
-        touchesTable (firstFrom (descriptorAt m (firstPlace root i)) 0) at n ≡ false
+    go : (x : Bool) → touchesTable (firstFrom (descriptorAt m (firstPlace (tables .root) k)) 0) at n ≡ x → cond x true (touchesTables m tables k at n) ≡ false →
+        (touchesTables m tables k at n ≡ false → (i : ℕ) → i < k → touchesTable (firstFrom (descriptorAt m (firstPlace (tables .root) i)) 0) at n ≡ false) →
+        touchesTable (firstFrom (descriptorAt m (firstPlace (tables .root) i)) 0) at n ≡ false
     go true p e rest = absurd (true≢false e)
     go false p e rest = by (eqb i k) refl
       where
-        by : (y : Bool) → eqb i k ≡ y → touchesTable (firstFrom (descriptorAt m (firstPlace root i)) 0) at n ≡ false
+        by : (y : Bool) → eqb i k ≡ y → touchesTable (firstFrom (descriptorAt m (firstPlace (tables .root) i)) 0) at n ≡ false
         by true q = rw (eqb-true i k q) p
         by false q = let ne = eqb-false i k q in rest e i (omega arith)
 
@@ -182,47 +184,52 @@ in-words root k i b lt x =
     let l : b < firstPlace root i + wordSize = x .before in
     record { from = omega arith; before = omega arith }
 
-touches-true : (m : List ℕ) (root at n : ℕ) → 0 < n → (k : ℕ) → 0 < k → touches m root k at n ≡ true → MetIn m root k at n
+touches-true : (m : List ℕ) (tables : Tables) (at n : ℕ) → 0 < n → (k : ℕ) → 0 < k → touches m tables k at n ≡ true → MetIn m (tables .root) k at n
 unfolding touches
-touches-true m root at n hn k hk h = go (overlap at n root (wordSize * k)) refl h
+touches-true m tables at n hn k hk h = go (overlap at n (tables .root) (wordSize * k)) refl h
   where
-    go : (x : Bool) → overlap at n root (wordSize * k) ≡ x → cond x true (touchesTables m root k at n) ≡ true → MetIn m root k at n
+    go : (x : Bool) → overlap at n (tables .root) (wordSize * k) ≡ x → cond x true (touchesTables m tables k at n) ≡ true → MetIn m (tables .root) k at n
     go true p e =
-        let z = overlap-true at n root (wordSize * k) hn (omega arith) p in
+        let z = overlap-true at n (tables .root) (wordSize * k) hn (omega arith) p in
         record {
-          mib = (z .byte - root) / wordSize;
-          below = word-below root k (z .byte) (z .other);
-          met = record { byte = z .byte; touched = z .one; serves = firstWord (word-of root k (z .byte) (z .other)) };
+          mib = (z .byte - (tables .root)) / wordSize;
+          below = word-below (tables .root) k (z .byte) (z .other);
+          met = record { byte = z .byte; touched = z .one; serves = firstWord (word-of (tables .root) k (z .byte) (z .other)) };
         }
-    go false p e = tables-true m root at n hn k e
+    go false p e = tables-true m tables at n hn k e
 
-touches-false : (m : List ℕ) (root at n k : ℕ) → touches m root k at n ≡ false → (i : ℕ) → i < k → (b : ℕ) → Among at n b → Serves m root i b → ⊥
+touches-false : (m : List ℕ) (tables : Tables) (at n k : ℕ) → touches m tables k at n ≡ false → (i : ℕ) → i < k → (b : ℕ) → Among at n b → Serves m (tables .root) i b → ⊥
 unfolding touches
-touches-false m root at n k h i lt b a s = go (overlap at n root (wordSize * k)) refl h s
+touches-false m tables at n k h i lt b a s = go (overlap at n (tables .root) (wordSize * k)) refl h s
   where
-    go : (x : Bool) → overlap at n root (wordSize * k) ≡ x → cond x true (touchesTables m root k at n) ≡ false → Serves m root i b → ⊥
+    go : (x : Bool) → overlap at n (tables .root) (wordSize * k) ≡ x → cond x true (touchesTables m tables k at n) ≡ false → Serves m (tables .root) i b → ⊥
     go true p e s = absurd (true≢false e)
-    go false p e (firstWord x) = overlap-false at n root (wordSize * k) p b a (in-words root k i b lt x)
+    go false p e (firstWord x) = overlap-false at n (tables .root) (wordSize * k) p b a (in-words (tables .root) k i b lt x)
     go false p e (ofTable x y z) =
-        table-false m root i at n (sym (table-same m (firstPlace root i) at n) ∙ tables-false m root at n k e i lt) b a x y z
+        table-false m (tables .root) i at n (sym (table-same m (firstPlace (tables .root) i) at n) ∙ tables-false m tables at n k e i lt) b a x y z
 
 -- a quiet store keeps away from what the walks of each MiB use
-pub quiet-apart : (m : List ℕ) (root at n : ℕ) → quiet m root at n ≡ true → (i : ℕ) → i < windowWords → (b : ℕ) → Among at n b → Serves m root i b → ⊥
+-- a window of w MiB has w level-one words
+pub window-words : (w : ℕ) → windowWords w ≡ w
+unfolding windowWords addressLimit
+window-words w = omega arith
+
+pub quiet-apart : (w : ℕ) (m : List ℕ) (tables : Tables) (at n : ℕ) → quiet w m tables at n ≡ true → (i : ℕ) → i < w → (b : ℕ) → Among at n b → Serves m (tables .root) i b → ⊥
 unfolding quiet
-quiet-apart m root at n h = touches-false m root at n windowWords (not-true (touches m root windowWords at n) h)
+quiet-apart w m tables at n h = touches-false m tables at n w (not-true (touches m tables w at n) h)
 
-pub quiet-exactly : (m : List ℕ) (root at n : ℕ) → 0 < n → at + n ≤ length m → (quiet m root at n ≡ true) ↔ Untouched m root at n
-quiet-exactly m root at n hn inside = (to, from)
+pub quiet-exactly : (w : ℕ) (m : List ℕ) (tables : Tables) (at n : ℕ) → 0 < w → 0 < n → at + n ≤ length m → (quiet w m tables at n ≡ true) ↔ Untouched w m (tables .root) at n
+quiet-exactly w m tables at n hw hn inside = (to, from)
   where
-    to : quiet m root at n ≡ true → Untouched m root at n
-    to h b a u = quiet-apart m root at n h (u .mib) (u .inWindow) b a (u .serves)
+    to : quiet w m tables at n ≡ true → Untouched w m (tables .root) at n
+    to h b a u = quiet-apart w m tables at n h (u .mib) (rw (← window-words w) (u .inWindow)) b a (u .serves)
 
-    from : Untouched m root at n → quiet m root at n ≡ true
-    from none = unfold quiet in go (touches m root windowWords at n) refl
+    from : Untouched w m (tables .root) at n → quiet w m tables at n ≡ true
+    from none = unfold quiet in go (touches m tables w at n) refl
       where
-        go : (x : Bool) → touches m root windowWords at n ≡ x → not x ≡ true
+        go : (x : Bool) → touches m tables w at n ≡ x → not x ≡ true
         go false e = refl
         go true e =
-            let z = touches-true m root at n hn windowWords (omega arith) e in
+            let z = touches-true m tables at n hn w hw e in
             let b : z .met .byte < at + n = z .met .touched .before in
-            absurd (none (z .met .byte) (z .met .touched) (record { mib = z .mib; inWindow = z .below; serves = z .met .serves; inside = omega arith }))
+            absurd (none (z .met .byte) (z .met .touched) (record { mib = z .mib; inWindow = rw (window-words w) (z .below); serves = z .met .serves; inside = omega arith }))

@@ -68,15 +68,16 @@ reads-serves m root a b (second inside p i) =
     ofTable inside p (record { from = omega (arith, f); before = omega (arith, l) })
 
 -- and what belongs to the walks of a MiB of the window the walk of some address there reads
-abbrev Read : List ℕ → ℕ → ℕ → Type 0
-Read m root b = (a : ℕ) × (a < addressLimit) × Reads m root a b
+abbrev Read : ℕ → List ℕ → ℕ → ℕ → Type 0
+Read w m root b = (a : ℕ) × (a < addressLimit w) × Reads m root a b
 
 -- page j of MiB i
 abbrev pageOf : ℕ → ℕ → ℕ
 pageOf i j = i * sectionSize + j * pageSize
 
-module _ (m : List ℕ) (root i j : ℕ) (hi : i < windowWords) (hj : j < 256) where
-  below : pageOf i j < addressLimit
+module _ (w : ℕ) (m : List ℕ) (root i j : ℕ) (hi : i < windowWords w) (hj : j < 256) where
+  below : pageOf i j < addressLimit w
+  unfolding windowWords addressLimit
   below = omega arith
 
   its-mib : pageOf i j / sectionSize ≡ i
@@ -97,31 +98,35 @@ in-word : (base b : ℕ) → Among base tableSize b → Among (base + 4 * wordIn
 unfolding wordIn
 in-word base b x = let f : base ≤ b = x .from in let l : b < base + tableSize = x .before in record { from = omega (arith, f, l); before = omega (arith, f, l) }
 
-serves-read : (m : List ℕ) (root i b : ℕ) → i < windowWords → Serves m root i b → Read m root b
-serves-read m root i b hi (firstWord x) =
-    (pageOf i 0, below m root i 0 hi (omega arith), first (subst (λ n. Among (root + 4 * n) 4 b) (sym (its-mib m root i 0 hi (omega arith))) x))
-serves-read m root i b hi (ofTable inside p x) =
+serves-read : (w : ℕ) (m : List ℕ) (root i b : ℕ) → i < windowWords w → Serves m root i b → Read w m root b
+serves-read w m root i b hi (firstWord x) =
+    (pageOf i 0, below w m root i 0 hi (omega arith), first (subst (λ n. Among (root + 4 * n) 4 b) (sym (its-mib w m root i 0 hi (omega arith))) x))
+serves-read w m root i b hi (ofTable inside p x) =
     let base : ℕ = tableBase (value m (firstPlace root i) wordSize) in
     let j : ℕ = wordIn base b in
     let hj : j < 256 = word-below base b x in
-    let mib : i ≡ pageOf i j / sectionSize = sym (its-mib m root i j hi hj) in (
+    let mib : i ≡ pageOf i j / sectionSize = sym (its-mib w m root i j hi hj) in (
       pageOf i j,
-      below m root i j hi hj,
+      below w m root i j hi hj,
       second (subst (λ n. inMemory m (root + 4 * n) 4 ≡ true) mib inside) (subst (λ n. bits 1 0 (value m (root + 4 * n) 4) ≡ 1) mib p)
           (subst (λ n. Among (bits 31 10 (value m (root + 4 * n) 4) * 1024 + 4 * (pageOf i j / pageSize % 256)) 4 b) mib
-          (subst (λ n. Among (base + 4 * n) 4 b) (sym (its-page m root i j hi hj)) (in-word base b x))),
+          (subst (λ n. Among (base + 4 * n) 4 b) (sym (its-page w m root i j hi hj)) (in-word base b x))),
     )
 
-used-exactly : (m : List ℕ) (root b : ℕ) → Used m root b ↔ ((a : ℕ) × (a < addressLimit) × Reads m root a b × (b < length m))
-used-exactly m root b = (to, from)
-  where
-    to : Used m root b → (a : ℕ) × (a < addressLimit) × Reads m root a b × (b < length m)
-    to u = let z = serves-read m root (u .mib) b (u .inWindow) (u .serves) in (z .0, z .1, z .2, u .inside)
+in-window : (w a : ℕ) → a < addressLimit w → a / sectionSize < windowWords w
+unfolding windowWords addressLimit
+in-window w a h = omega (arith, h)
 
-    from : ((a : ℕ) × (a < addressLimit) × Reads m root a b × (b < length m)) → Used m root b
+used-exactly : (w : ℕ) (m : List ℕ) (root b : ℕ) → Used w m root b ↔ ((a : ℕ) × (a < addressLimit w) × Reads m root a b × (b < length m))
+used-exactly w m root b = (to, from)
+  where
+    to : Used w m root b → (a : ℕ) × (a < addressLimit w) × Reads m root a b × (b < length m)
+    to u = let z = serves-read w m root (u .mib) b (u .inWindow) (u .serves) in (z .0, z .1, z .2, u .inside)
+
+    from : ((a : ℕ) × (a < addressLimit w) × Reads m root a b × (b < length m)) → Used w m root b
     from z =
-        let h : z .0 < addressLimit = z .1 in
-        record { mib = z .0 / sectionSize; inWindow = omega (arith, h); serves = reads-serves m root (z .0) b (z .2); inside = z .3 }
+        let h : z .0 < addressLimit w = z .1 in
+        record { mib = z .0 / sectionSize; inWindow = in-window w (z .0) h; serves = reads-serves m root (z .0) b (z .2); inside = z .3 }
 
 pub used-by-walks : UsedByWalks
 used-by-walks = record { exactly = used-exactly; nothingElse = nothing-else }

@@ -7,9 +7,9 @@ use lib.ListN.{length}
 use Rattle.model.specs.Limits.{addressLimit, pageSize, sectionSize}
 use Rattle.model.specs.reference.Rules.{inMemory, value, bits}
 
--- how many level-one words the window has: one for each MiB below the limit of addresses
-abbrev pub windowWords : ℕ
-windowWords = addressLimit / sectionSize
+-- how many level-one words a window of w MiB has: one for each MiB below the limit of addresses
+unfoldable pub windowWords : ℕ → ℕ
+windowWords w = addressLimit w / sectionSize
 
 -- bytes of a level-one word, and of a table
 abbrev pub wordSize : ℕ
@@ -37,15 +37,15 @@ pub data Serves (m : List ℕ) (root i b : ℕ) : Type 0 where
       Among (tableBase (value m (firstPlace root i) wordSize)) tableSize b → Serves m root i b
 
 -- A byte is used by a present walk if it belongs to the walks of a MiB of the window and lies in memory.
-pub record Used (m : List ℕ) (root b : ℕ) : Type 0 where
+pub record Used (w : ℕ) (m : List ℕ) (root b : ℕ) : Type 0 where
   pub mib : ℕ
-  pub inWindow : mib < windowWords
+  pub inWindow : mib < windowWords w
   pub serves : Serves m root mib b
   pub inside : b < length m
 
 -- The n bytes from `at` on touch no used byte.
-abbrev pub Untouched : List ℕ → ℕ → ℕ → ℕ → Type 0
-Untouched m root at n = (b : ℕ) → Among at n b → Used m root b → ⊥
+abbrev pub Untouched : ℕ → List ℕ → ℕ → ℕ → ℕ → Type 0
+Untouched w m root at n = (b : ℕ) → Among at n b → Used w m root b → ⊥
 
 -- ── The bytes that the walk of one address reads ──
 -- the level-one word of an address: where it stands, and what it says

@@ -1,8 +1,8 @@
 -- Laws of lists of words in rows.
-use Prim.Native.Nat.{ℕ, zero, suc, _+_, _*_, _-_, _≤_, _<_, zero-le}
+use Prim.Native.Nat.{ℕ, zero, suc, _+_, _*_, _-_, _/_, _≤_, _<_, zero-le}
 use mathlib.Core.Path.{_≡_, refl, sym, ap, _∙_}
 use mathlib.Core.List.{List, [], _∷_, _++_}
-use native.Mathlib.Nat.{le-of-suc-le-suc, not-suc-le-zero, add-zero, add-suc, suc-add, zero-add}
+use native.Mathlib.Nat.{le-of-suc-le-suc, not-suc-le-zero, add-zero, add-suc, suc-add, zero-add, suc-mul, mul-zero, zero-lt-suc}
 use native.Mathlib.Numerals.{add-one}
 use native.Mathlib.Omega.{arith}
 use lib.ListN.{length, getD, set, take, drop, length-append, length-take, length-drop}
@@ -10,7 +10,8 @@ use borrow.Author.Tests.{le-leb, lt-leb}
 use borrow.Rule.Slice.PartMut.{putMid}
 use mathlib.Core.Bool.{Bool, true, false, cond}
 use lib.Dec.{leb}
-use Rattle.model.specs.step.Rows.{mapFirst, mapWords, inPart, inRow, eachRow}
+use Rattle.model.specs.step.Rows.{mapFirst, mapWords, rowStart, inPart, inRow, eachRow}
+use Rattle.limits.proofs.Sizes.{row-past, start-place}
 
 -- a word stored where it stands
 set-own : (l : List ℕ) (n : ℕ) → set l n (getD l n 0) ≡ l
@@ -137,3 +138,33 @@ no-row f size c l h = rw (lt-leb (c * size + size) (length l) h)
 pub row-turn : (f : List ℕ → List ℕ) (size c : ℕ) (old l new : List ℕ) → l ≡ eachRow size c f old → new ≡ inRow size c f l → new ≡ eachRow size (c + 1) f old
 unfolding eachRow
 row-turn f size c old l new w q = rw add-one (q ∙ ap (inRow size c f) w)
+
+-- ── Rows of a size that is told, lent from where they start ──
+
+-- a row that stands there was lent and came back as ys
+pub put-at : (f : List ℕ → List ℕ) (size row start words k : ℕ) (l ys : List ℕ) → start ≡ row * size → words ≡ size → start + words ≤ length l →
+    k ≡ words → ys ≡ f (take k (drop start l)) → putMid start k l ys ≡ inRow size row f l
+put-at f size row start words k l ys place is room e q =
+    ap (λ (s : ℕ). putMid s k l ys) place
+    ∙ put-row f size row k l ys (e ∙ is) (rw (← place, ← is) room) (q ∙ ap (λ (s : ℕ). f (take k (drop s l))) place)
+
+-- a row that has room was lent from where it starts, and came back as ys
+pub put-from : (f : List ℕ → List ℕ) (size row start words k : ℕ) (l ys : List ℕ) → start ≡ rowStart size row (length l) → words ≡ size → start + words ≤ length l →
+    k ≡ words → ys ≡ f (take k (drop start l)) → putMid start k l ys ≡ inRow size row f l
+put-from f size row start words k l ys at is room e q =
+    put-at f size row start words k l ys (at ∙ start-place size row (length l) (rw (← at, ← is) room)) is room e q
+
+-- a row past the whole rows; one of no words is where nothing is
+pub none-past : (f : List ℕ → List ℕ) (size row count : ℕ) (l : List ℕ) → f [] ≡ [] → count ≡ length l / size → count ≤ row → l ≡ inRow size row f l
+none-past f zero row count l nothing many h = sym (unfold inRow in rw (mul-zero row, le-leb 0 (length l) zero-le) (ap (λ (ys : List ℕ). ys ++ l) nothing))
+none-past f (suc s) row count l nothing many h =
+    let past : length l < suc row * suc s = row-past (length l) (suc s) (suc row) (zero-lt-suc s) (omega arith) in
+    let step : suc row * suc s ≡ row * suc s + suc s = suc-mul row (suc s) in
+    no-row f (suc s) row l (omega arith)
+
+-- a row that f leaves as it is, seen from where it starts
+pub still-from : (f : List ℕ → List ℕ) (size row start words k : ℕ) (l : List ℕ) → start ≡ rowStart size row (length l) → words ≡ size → start + words ≤ length l →
+    k ≡ words → take k (drop start l) ≡ f (take k (drop start l)) → l ≡ inRow size row f l
+still-from f size row start words k l at is room e q =
+    let place = at ∙ start-place size row (length l) (rw (← at, ← is) room) in
+    still-row f size row k l (e ∙ is) (sym (ap (λ (s : ℕ). take k (drop s l)) place) ∙ q ∙ ap (λ (s : ℕ). f (take k (drop s l))) place)

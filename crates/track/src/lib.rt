@@ -1,15 +1,15 @@
-// What a TLB may remember, in the words of a track: a row of 1,024 words for each context, then one for the global entries. A row is
-// lent on by itself. What is done to a word or a row is told the row's kind by the number `global`: 0 for a context's row, 1 for the
-// global row.
+// What a TLB may remember, in the words of a track: a row for each context, then one for the global entries. A row has a word for each
+// page of the window, and is lent on by itself. What is done to a word or a row is told the row's kind by the number `global`: 0 for a
+// context's row, 1 for the global row.
 ghost use mathlib.Core.Path.{_≡_};
 ghost use Rattle.model.specs.Limits.{rowSize};
 ghost use Rattle.model.specs.step.Rows.{inRow};
 ghost use Rattle.model.specs.step.Track.{isEntry, addEntry, emptyPage, emptyRow, flushAll, flushPage, flushContext, flushPageIn, wordAt, staleWord, stalePage};
 use limits::last_row;
+use limits::row_size;
+use limits::row_start;
+use limits::rows;
 use model::Outcome;
-
-// How many words a row has: rowSize.
-const ROW: usize = 1024;
 
 // Whether a word of a row of this kind stands for one entry.
 pub fn is_entry(global: u32, w: u32) -> bool
@@ -59,73 +59,73 @@ pub fn empty_page(row: &mut [u32], page: usize)
 }
 
 // Empties the row of a context, where the track has it.
-pub fn flush_context(track: &mut [u32], context: usize)
-    ensures { λ _. ⌜ now (track .exit) ≡ flushContext context (now (track .entry)) ⌝ }
+pub fn flush_context(window: u32, track: &mut [u32], context: usize)
+    ensures { λ _. ⌜ now (track .exit) ≡ flushContext window context (now (track .entry)) ⌝ }
 {
-    if context < track.len() / ROW {
-        let first = context * ROW;
-        let past = first + ROW;
+    if context < rows(window, track.len()) {
+        let size = row_size(window);
+        let first = row_start(window, context, track.len());
+        let past = first + size;
         empty_row(&mut track[first..past]);
     }
 }
 
 // Empties the set of a page in one row of a track, where the track has it.
-fn empty_in(track: &mut [u32], row: usize, page: usize)
-    ensures { λ _. ⌜ now (track .exit) ≡ inRow rowSize row (emptyPage page) (now (track .entry)) ⌝ }
+fn empty_in(window: u32, track: &mut [u32], row: usize, page: usize)
+    ensures { λ _. ⌜ now (track .exit) ≡ inRow (rowSize window) row (emptyPage page) (now (track .entry)) ⌝ }
 {
-    if row < track.len() / ROW {
-        let from = row * ROW;
-        let to = from + ROW;
+    if row < rows(window, track.len()) {
+        let size = row_size(window);
+        let from = row_start(window, row, track.len());
+        let to = from + size;
         empty_page(&mut track[from..to], page);
     }
 }
 
 // Empties the set of a page in a context, where the track has it, and its global set.
-pub fn flush_page_in(track: &mut [u32], context: usize, page: usize)
-    ensures { λ _. ⌜ now (track .exit) ≡ flushPageIn context page (now (track .entry)) ⌝ }
+pub fn flush_page_in(window: u32, track: &mut [u32], context: usize, page: usize)
+    ensures { λ _. ⌜ now (track .exit) ≡ flushPageIn window context page (now (track .entry)) ⌝ }
 {
-    let last = last_row(track.len());
-    empty_in(track, context, page);
-    empty_in(track, last, page);
+    let last = last_row(window, track.len());
+    empty_in(window, track, context, page);
+    empty_in(window, track, last, page);
 }
 
 // Empties every set.
-pub fn flush_all(track: &mut [u32])
-    ensures { λ _. ⌜ now (track .exit) ≡ flushAll (now (track .entry)) ⌝ }
+pub fn flush_all(window: u32, track: &mut [u32])
+    ensures { λ _. ⌜ now (track .exit) ≡ flushAll window (now (track .entry)) ⌝ }
 {
-    let rows = track.len() / ROW;
+    let k = rows(window, track.len());
     let mut c = 0;
-    while c < rows {
-        flush_context(track, c);
+    while c < k {
+        flush_context(window, track, c);
         c += 1;
     }
 }
 
 // Empties the set of a page in every context, and its global set.
-pub fn flush_page(track: &mut [u32], page: usize)
-    ensures { λ _. ⌜ now (track .exit) ≡ flushPage page (now (track .entry)) ⌝ }
+pub fn flush_page(window: u32, track: &mut [u32], page: usize)
+    ensures { λ _. ⌜ now (track .exit) ≡ flushPage window page (now (track .entry)) ⌝ }
 {
-    let rows = track.len() / ROW;
+    let size = row_size(window);
+    let k = rows(window, track.len());
+    let mut start = 0;
     let mut c = 0;
-    while c < rows {
-        empty_in(track, c, page);
+    while c < k {
+        let end = start + size;
+        empty_page(&mut track[start..end], page);
+        start = end;
         c += 1;
     }
 }
 
 // The word of a row and a page, or 0 where the track has none.
-pub fn word_at(track: &[u32], row: usize, page: usize) -> u32
-    ensures { λ r. ⌜ r ≡ wordAt (now (track .entry)) row page ⌝ }
+pub fn word_at(window: u32, track: &[u32], row: usize, page: usize) -> u32
+    ensures { λ r. ⌜ r ≡ wordAt window (now (track .entry)) row page ⌝ }
 {
-    if track.len() / ROW < row {
-        return 0;
-    }
-    let start = row * ROW;
-    if start < track.len() {
-        if page < track.len() - start {
-            return track[start + page];
-        }
-        return 0;
+    let start = row_start(window, row, track.len());
+    if page < track.len() - start {
+        return track[start + page];
     }
     0
 }
@@ -153,13 +153,13 @@ pub fn is_stale(global: u32, w: u32, o: Outcome) -> bool
 }
 
 // Whether a page with this outcome is stale, by its word in the row of a context or by its word in the global row.
-pub fn is_stale_page(track: &[u32], context: u32, page: usize, o: Outcome) -> bool
-    ensures { λ r. ⌜ r ≡ stalePage (now (track .entry)) context page o ⌝ }
+pub fn is_stale_page(window: u32, track: &[u32], context: u32, page: usize, o: Outcome) -> bool
+    ensures { λ r. ⌜ r ≡ stalePage window (now (track .entry)) context page o ⌝ }
 {
-    let own = word_at(track, context as usize, page);
+    let own = word_at(window, track, context as usize, page);
     if is_stale(0, own, o) {
         return true;
     }
-    let shared = word_at(track, last_row(track.len()), page);
+    let shared = word_at(window, track, last_row(window, track.len()), page);
     is_stale(1, shared, o)
 }

@@ -1,17 +1,20 @@
 // Reads, writes and fetches carried out, and noting, which follows whatever is carried out.
 ghost use mathlib.Core.Path.{_≡_};
-ghost use Rattle.model.specs.step.Machine.{Gives, carried, valueOf, readFrom, writeTo, readStep, writeStep, fetchStep};
+ghost use Rattle.model.specs.Limits.{oldWindow};
+ghost use Rattle.model.specs.step.Machine.{Gives, carried, valueOf, readFrom, writeTo, readStep, writeStep, fetchStep, tablesOf};
 ghost use Rattle.model.specs.step.Memory.{writtenAt};
 ghost use Rattle.model.specs.step.Track.{noteTrack};
 use access::access_at;
 use model::Access;
 use model::Answer;
 use model::Loaded;
+use model::OLD_WINDOW;
 use model::Purpose;
 use model::Refusal;
 use model::Registers;
 use model::Returned;
 use model::Size;
+use model::Tables;
 
 // The number that loading found.
 pub fn value_of(x: Loaded) -> u32
@@ -24,13 +27,14 @@ pub fn value_of(x: Loaded) -> u32
 }
 
 // Carried out: the track is noted with the registers and the memory left.
-pub fn carry(x: Answer, r: Registers, m: &[u8], t: &mut [u32]) -> Returned
-    ensures { λ y. ⌜ Gives (carried x r (now (m .entry)) (now (t .entry))) y (now (m .entry)) (now (t .exit)) ⌝ }
+pub fn carry(x: Answer, left: Registers, m: &[u8], t: &mut [u32]) -> Returned
+    ensures { λ y. ⌜ Gives (carried x left (now (m .entry)) (now (t .entry))) y (now (m .entry)) (now (t .exit)) ⌝ }
 {
-    noting::note(m, r.root, t, r.context as usize);
+    let tables = Tables { root: left.root };
+    noting::note(OLD_WINDOW, m, tables, t, left.context as usize);
     Returned {
         answer: x,
-        registers: r,
+        registers: left,
     }
 }
 
@@ -38,7 +42,13 @@ pub fn carry(x: Answer, r: Registers, m: &[u8], t: &mut [u32]) -> Returned
 pub fn carry_flushed(answer: Answer, r: Registers, m: &[u8], t: &mut [u32]) -> Returned
     ensures { λ y. ⌜ Gives (carried answer r (now (m .entry)) (now (t .entry))) y (now (m .entry)) (now (t .exit)) ⌝ }
 {
-    noting::note_rows(m, r.root, t, r.context as usize);
+    noting::note_rows(
+        OLD_WINDOW,
+        m,
+        Tables { root: r.root },
+        t,
+        r.context as usize,
+    );
     Returned {
         answer: answer,
         registers: r,
@@ -46,19 +56,12 @@ pub fn carry_flushed(answer: Answer, r: Registers, m: &[u8], t: &mut [u32]) -> R
 }
 
 // Stores, then notes with the memory that is left.
-pub fn store_and_note(
-    at: usize,
-    size: Size,
-    v: u32,
-    root: u32,
-    context: u32,
-    m: &mut [u8],
-    t: &mut [u32],
-)
-    ensures { λ _. ⌜ (now (m .exit) ≡ writtenAt size (now (m .entry)) at v) × (now (t .exit) ≡ noteTrack (now (m .exit)) root context (now (t .entry))) ⌝ }
+pub fn store_and_note(at: usize, size: Size, v: u32, r: Registers, m: &mut [u8], t: &mut [u32])
+    ensures { λ _. ⌜ (now (m .exit) ≡ writtenAt size (now (m .entry)) at v) × (now (t .exit) ≡ noteTrack oldWindow (now (m .exit)) (tablesOf r) (r .context) (now (t .entry))) ⌝ }
 {
+    let tables = Tables { root: r.root };
     memory::store(m, at, size, v);
-    noting::note(m, root, t, context as usize);
+    noting::note(OLD_WINDOW, m, tables, t, r.context as usize);
 }
 
 // A read or a fetch, by what its access comes to.
@@ -89,7 +92,7 @@ fn write_to(x: Access, size: Size, v: u32, r: Registers, m: &mut [u8], t: &mut [
         },
         Access::Fails(why) => carry(Answer::Faulted(why), r, m, t),
         Access::Physical(p) => {
-            store_and_note(p, size, v, r.root, r.context, m, t);
+            store_and_note(p, size, v, r, m, t);
             Returned {
                 answer: Answer::Done(0),
                 registers: r,

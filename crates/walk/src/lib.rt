@@ -8,6 +8,7 @@ ghost use Rattle.model.specs.step.WalkAnswer.{outcomeNumber, walkAnswer};
 ghost use Rattle.model.specs.step.Track.{entryWord};
 use descriptor::first_of;
 use descriptor::second_of;
+use limits::in_window;
 use limits::memory_fits;
 use limits::root_fits;
 use memory::load;
@@ -15,9 +16,12 @@ use model::Entry;
 use model::Fault;
 use model::FirstLevel;
 use model::Loaded;
+use model::OLD_SPLIT;
+use model::OLD_WINDOW;
 use model::Outcome;
 use model::Pointer;
 use model::Size;
+use model::Tables;
 
 // The short-descriptor status code of a fault.
 pub fn fault_number(f: Fault) -> u32
@@ -38,10 +42,10 @@ pub fn fault_number(f: Fault) -> u32
 }
 
 // What level one says of a page.
-pub fn level_one(m: &[u8], root: u32, page: usize) -> FirstLevel
-    ensures { λ r. ⌜ Tells firstFault (firstAt (now (m .entry)) root page) r ⌝ }
+pub fn level_one(m: &[u8], tables: Tables, page: usize) -> FirstLevel
+    ensures { λ r. ⌜ Tells firstFault (firstAt (now (m .entry)) tables page) r ⌝ }
 {
-    let at = root as usize + 4 * (page / 256);
+    let at = tables.root as usize + 4 * (page / 256);
     match load(m, at, Size::Four) {
         Loaded::Value(w) => first_of(w, page),
         Loaded::Outside => FirstLevel::Failing(Fault::FirstOutside),
@@ -60,10 +64,10 @@ pub fn level_two(m: &[u8], table: Pointer, page: usize) -> Outcome
 }
 
 // The walk of a page.
-pub fn walk(m: &[u8], root: u32, page: usize) -> Outcome
-    ensures { λ r. ⌜ Tells outcomeNumber (walkPage (now (m .entry)) root page) r ⌝ }
+pub fn walk(m: &[u8], tables: Tables, page: usize) -> Outcome
+    ensures { λ r. ⌜ Tells outcomeNumber (walkPage (now (m .entry)) tables page) r ⌝ }
 {
-    match level_one(m, root, page) {
+    match level_one(m, tables, page) {
         FirstLevel::Failing(f) => Outcome::Failed(f),
         FirstLevel::Section(e) => Outcome::Mapped(e),
         FirstLevel::Table(table) => level_two(m, table, page),
@@ -99,9 +103,9 @@ pub extern "C" fn walk_image(image: &[u8], root: u32, address: u32) -> u64
     ensures { λ r. ⌜ r ≡ walkAnswer (now (image .entry)) root address ⌝ }
 {
     if memory_fits(image.len()) {
-        if root_fits(root) {
-            if address < 4194304 { // addressLimit
-                return outcome_number(walk(image, root, address as usize / 4096)); // pageSize
+        if root_fits(OLD_SPLIT, root) {
+            if in_window(OLD_WINDOW, address) {
+                return outcome_number(walk(image, Tables { root }, address as usize / 4096)); // pageSize
             }
             return 8589934600; // 0x200000000 plus refusal 8
         }

@@ -37,7 +37,7 @@ carry-flushed-requires c κs = search needs
 returns : tie.Need-returns
 unfolding started
 returns c = let n = c .before in let h = n .before .before in let a = h .before .before .before .args in
-    turned _ _ _ _ _ (sym (ap (λ (z : Check). startedBy z (now (a .m)) (now (a .t)) (a .root)) (sym (h .check-start .ensures .check) ∙ n .n .given .1)))
+    turned _ _ _ _ _ (sym (ap (λ (z : Check). startedBy z (now (a .m)) (now (a .t)) (a .setting)) (sym (h .check-start .ensures .check) ∙ n .n .given .1)))
 
 same-length : tie.Need-same-length
 same-length c = search needs
@@ -45,7 +45,7 @@ same-length c = search needs
 returns-2 : tie.Need-returns-2
 unfolding started
 returns-2 c = let k = c .before .before in let f = k .before .before .before .before in let e = f .before .before in let h = e .before .before in let a = h .before .before .before .args in
-    regive _ _ _ _ _ (ap (λ (z : List ℕ). carried (Done 0) (startRegisters (a .root)) (now (a .m)) z) (f .flush-all .ensures) ∙ sym (ap (λ (z : Check). startedBy z (now (a .m)) (now (a .t)) (a .root)) (sym (h .check-start .ensures .check) ∙ e .enum-told .given .1))) (k .carry-flushed .ensures)
+    regive _ _ _ _ _ (ap (λ (z : List ℕ). carried (Done 0) (startRegisters (a .setting)) (now (a .m)) z) (f .flush-all .ensures) ∙ sym (ap (λ (z : Check). startedBy z (now (a .m)) (now (a .t)) (a .setting)) (sym (h .check-start .ensures .check) ∙ e .enum-told .given .1))) (k .carry-flushed .ensures)
 
 pub start-spec : {M : Type 1} → statement M
 start-spec =

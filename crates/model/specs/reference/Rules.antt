@@ -8,9 +8,9 @@ use mathlib.Core.List.{List, [], _∷_, map, foldl}
 use mathlib.Core.Option.{Option, none, some}
 use lib.Dec.{eqb, leb, ltb}
 use lib.ListN.{length, getD, set}
-use Rattle.model.specs.Limits.{pageSize, sectionSize, addressLimit, rowSize, rootAlignment, memoryUnit, memoryMost, contextsMost}
+use Rattle.model.specs.Limits.{pageSize, sectionSize, oldSplit, oldWindow, addressLimit, rowSize, rootAlignment, memoryUnit, memoryMost, contextsMost}
 use Rattle.model.specs.Numbers.{Result, ok, fault, kindNumber}
-use Rattle.model.specs.Types.{Registers, Operation, Kind, Read, Write, Root, Asid, Mode, All, Addr, Ctx, AddrCtx, Fetch, Domain, Entry, Purpose, ToRead, ToWrite, ToFetch, Ruling, Allowed, PermissionDenied, DomainDenied}
+use Rattle.model.specs.Types.{Registers, Setting, Operation, Kind, Read, Write, Root, Asid, Mode, All, Addr, Ctx, AddrCtx, Fetch, Domain, Entry, Purpose, ToRead, ToWrite, ToFetch, Ruling, Allowed, PermissionDenied, DomainDenied}
 
 -- ── Reading a map ──
 -- whether n bytes from `at` lie wholly in memory
@@ -155,9 +155,13 @@ pub record State : Type 0 where
   pub memory : List ℕ
   pub registers : Registers
 
+-- what a start at this root is given
+abbrev pub rooted : ℕ → Setting
+rooted root = record { root = root }
+
 -- at first: the image, the given root, context 0, kernel mode, each field of the domain register 1
-unfoldable pub fresh : List ℕ → ℕ → State
-fresh image root = record { memory = image; registers = record { root = root; context = 0; mode = 0; domains = 0x55555555 } }
+unfoldable pub fresh : List ℕ → Setting → State
+fresh image g = record { memory = image; registers = record { root = g .root; context = 0; mode = 0; domains = 0x55555555 } }
 
 -- memory with the low n bytes of v written from `at`, low byte first
 unfoldable pub stored : List ℕ → ℕ → ℕ → ℕ → List ℕ
@@ -313,12 +317,12 @@ putIn i context page (found e) ps =
     cond (anyClash h ps) ps (set ps i (some h))
 putIn i context page (failed n) ps = ps
 
--- A move; one that is not allowed does nothing. A load needs place i free, a page of the window (0 to 1,023) that the tables
+-- A move; one that is not allowed does nothing. A load needs place i free, a page of the window that the tables
 -- map in the current context, and that it brings about no two that match a page in some context.
 unfoldable pub move : State → Places → Move → Places
 move s ps (drop i) = set ps i none
 move s ps (load i page) =
-    cond (isFree (getD ps i none) && ltb page rowSize)
+    cond (isFree (getD ps i none) && ltb page (rowSize oldWindow))
     (putIn i (s .registers .context) page (outcome s (page * pageSize)) ps)
     ps
 
@@ -414,36 +418,37 @@ notedIn s x page w = noted x (s .registers .context) (outcome s (page * pageSize
 unfoldable pub wordAfter : Operation → State → Scope → ℕ → ℕ → ℕ
 wordAfter o s x page w = notedIn s x page (cond (flushes (o .kind) o x page) 0 w)
 
--- the number of contexts k, told by the track's length alone: the track has k rows, then the row of the global entries
-unfoldable pub contexts : List ℕ → ℕ
-contexts t = length t / rowSize - 1
+-- the number of contexts k, told with a window of w MiB by the track's length alone: the track has k rows, then the row of the
+-- global entries
+unfoldable pub contexts : ℕ → List ℕ → ℕ
+contexts w t = length t / rowSize w - 1
 
-unfoldable pub rowOf : List ℕ → Scope → ℕ
-rowOf t (own c) = c
-rowOf t global = contexts t
+unfoldable pub rowOf : ℕ → List ℕ → Scope → ℕ
+rowOf w t (own c) = c
+rowOf w t global = contexts w t
 
 -- whether a track has the row of a scope: it has those of its contexts, and the global row
-unfoldable pub hasRow : List ℕ → Scope → Bool
-hasRow t (own c) = ltb c (contexts t)
-hasRow t global = true
+unfoldable pub hasRow : ℕ → List ℕ → Scope → Bool
+hasRow w t (own c) = ltb c (contexts w t)
+hasRow w t global = true
 
 -- the word of a scope and a page in the track
-unfoldable pub trackWord : List ℕ → Scope → ℕ → ℕ
-trackWord t x page = getD t (rowSize * rowOf t x + page) 0
+unfoldable pub trackWord : ℕ → List ℕ → Scope → ℕ → ℕ
+trackWord w t x page = getD t (rowSize w * rowOf w t x + page) 0
 
 -- A page is stale in a context if its set there, or its global set, holds an entry different from its present outcome.
-unfoldable pub stale : List ℕ → ℕ → ℕ → Translation → Bool
-stale t context page y =
-    differs (kept (own context) (trackWord t (own context) page)) y || differs (kept global (trackWord t global page)) y
+unfoldable pub stale : ℕ → List ℕ → ℕ → ℕ → Translation → Bool
+stale w t context page y =
+    differs (kept (own context) (trackWord w t (own context) page)) y || differs (kept global (trackWord w t global page)) y
 
 -- ── Turned back ──
 -- 7 size: 1, 2 or 4
 unfoldable pub refuses7 : Operation → Bool
 refuses7 o = among (o .kind) (Read ∷ Write ∷ []) && not (eqb (o .b) 1 || eqb (o .b) 2 || eqb (o .b) 4)
 
--- 8 address 0x400000 or more, flushes included
-unfoldable pub refuses8 : Operation → Bool
-refuses8 o = among (o .kind) (Read ∷ Write ∷ Addr ∷ AddrCtx ∷ Fetch ∷ []) && leb addressLimit (o .a)
+-- 8 address w × 0x100000 or more, flushes included
+unfoldable pub refuses8 : Operation → ℕ → Bool
+refuses8 o w = among (o .kind) (Read ∷ Write ∷ Addr ∷ AddrCtx ∷ Fetch ∷ []) && leb (addressLimit w) (o .a)
 
 -- 9 value too large for the size
 unfoldable pub refuses9 : Operation → Bool
@@ -451,12 +456,12 @@ refuses9 o =
     among (o .kind) (Write ∷ [])
     && (eqb (o .b) 1 && leb 0x100 (o .c) || eqb (o .b) 2 && leb 0x10000 (o .c) || eqb (o .b) 4 && leb 0x100000000 (o .c))
 
--- 10 root not a multiple of 0x80
-abbrev pub wrongRoot : ℕ → Bool
-wrongRoot root = not (eqb (root % rootAlignment) 0)
+-- 10 root not a multiple of 2^(14 − N)
+abbrev pub wrongRoot : ℕ → ℕ → Bool
+wrongRoot n root = not (eqb (root % rootAlignment n) 0)
 
-unfoldable pub refuses10 : Operation → Bool
-refuses10 o = among (o .kind) (Root ∷ []) && wrongRoot (o .a)
+unfoldable pub refuses10 : Operation → ℕ → Bool
+refuses10 o n = among (o .kind) (Root ∷ []) && wrongRoot n (o .a)
 
 -- 11 context k or more
 unfoldable pub refuses11 : Operation → ℕ → Bool
@@ -466,15 +471,15 @@ refuses11 o k = among (o .kind) (Asid ∷ Ctx ∷ []) && leb k (o .a) || among (
 unfoldable pub refuses12 : Operation → Bool
 refuses12 o = among (o .kind) (Mode ∷ []) && leb 2 (o .a)
 
--- 13 lent lengths: memory a multiple of 4,096 from 4,096 to 16,777,216; track 1,024 × (k + 1), k from 1 to 256
+-- 13 lent lengths: memory a multiple of 4,096 from 4,096 to 16,777,216; track 256 × w × (k + 1), k from 1 to 256
 abbrev pub wrongMemory : List ℕ → Bool
 wrongMemory m = not (eqb (length m % memoryUnit) 0 && leb memoryUnit (length m) && leb (length m) memoryMost)
 
-abbrev pub wrongTrack : List ℕ → Bool
-wrongTrack t = not (eqb (length t) (rowSize * (contexts t + 1)) && leb 1 (contexts t) && leb (contexts t) contextsMost)
+abbrev pub wrongTrack : ℕ → List ℕ → Bool
+wrongTrack w t = not (eqb (length t) (rowSize w * (contexts w t + 1)) && leb 1 (contexts w t) && leb (contexts w t) contextsMost)
 
-unfoldable pub refuses13 : List ℕ → List ℕ → Bool
-refuses13 m t = wrongMemory m || wrongTrack t
+unfoldable pub refuses13 : ℕ → List ℕ → List ℕ → Bool
+refuses13 w m t = wrongMemory m || wrongTrack w t
 
 -- whether some of the first n fields of a domain register is 2; it has sixteen
 unfoldable pub someField2 : ℕ → ℕ → Bool
@@ -484,9 +489,9 @@ someField2 (suc n) domains = someField2 n domains || eqb (fieldOf domains n) 2
 abbrev pub wrongDomains : ℕ → Bool
 wrongDomains domains = someField2 16 domains
 
--- 14 registers out of range: root a multiple of 0x80, context 0 to k − 1, mode 0 or 1, no field of the domain register 2
+-- 14 registers out of range: root a multiple of 2^(14 − N), context 0 to k − 1, mode 0 or 1, no field of the domain register 2
 unfoldable pub refuses14 : Registers → ℕ → Bool
-refuses14 r k = wrongRoot (r .root) || leb k (r .context) || leb 2 (r .mode) || wrongDomains (r .domains)
+refuses14 r k = wrongRoot oldSplit (r .root) || leb k (r .context) || leb 2 (r .mode) || wrongDomains (r .domains)
 
 -- 15 user mode: all operations but read, write, mode and fetch need kernel mode
 unfoldable pub refuses15 : Operation → Registers → Bool
@@ -495,7 +500,7 @@ refuses15 o r = not (among (o .kind) (Read ∷ Write ∷ Mode ∷ Fetch ∷ []))
 -- 16 stale: an aligned access to a page that is stale in the current context
 unfoldable pub refuses16 : Operation → Registers → List ℕ → List ℕ → Bool
 refuses16 o r m t =
-    among (o .kind) accesses && aligned (o .a) (accessSize o) && stale t (r .context) (o .a / pageSize) (walk m (r .root) (o .a))
+    among (o .kind) accesses && aligned (o .a) (accessSize o) && stale oldWindow t (r .context) (o .a / pageSize) (walk m (r .root) (o .a))
 
 -- 17 some field of the new value of the domain register is 2
 unfoldable pub refuses17 : Operation → Bool
@@ -508,17 +513,19 @@ refuses20 o r = among (o .kind) (Root ∷ []) && not (eqb (r .context) 0)
 -- An operation is tested for 13, 14, then 7 to 12, 17, 15, 20, then 16.
 unfoldable pub conditions : Operation → Registers → List ℕ → List ℕ → List (ℕ × Bool)
 conditions o r m t =
-    (13, refuses13 m t) ∷ (14, refuses14 r (contexts t))
-    ∷ (7, refuses7 o) ∷ (8, refuses8 o) ∷ (9, refuses9 o) ∷ (10, refuses10 o) ∷ (11, refuses11 o (contexts t)) ∷ (12, refuses12 o)
+    (13, refuses13 oldWindow m t) ∷ (14, refuses14 r (contexts oldWindow t))
+    ∷ (7, refuses7 o) ∷ (8, refuses8 o oldWindow) ∷ (9, refuses9 o) ∷ (10, refuses10 o oldSplit)
+    ∷ (11, refuses11 o (contexts oldWindow t)) ∷ (12, refuses12 o)
     ∷ (17, refuses17 o) ∷ (15, refuses15 o r) ∷ (20, refuses20 o r) ∷ (16, refuses16 o r m t) ∷ []
 
 -- Start can give 13 and 10, 13 first.
-unfoldable pub startConditions : List ℕ → List ℕ → ℕ → List (ℕ × Bool)
-startConditions m t root = (13, refuses13 m t) ∷ (10, wrongRoot root) ∷ []
+unfoldable pub startConditions : List ℕ → List ℕ → Setting → List (ℕ × Bool)
+startConditions m t g = (13, refuses13 oldWindow m t) ∷ (10, wrongRoot oldSplit (g .root)) ∷ []
 
 -- A single walk of an address is tested as start does, with no track, then for 8.
 unfoldable pub walkConditions : List ℕ → ℕ → ℕ → List (ℕ × Bool)
-walkConditions m root a = (13, wrongMemory m) ∷ (10, wrongRoot root) ∷ (8, refuses8 (record { kind = Read; a = a; b = 1; c = 0 })) ∷ []
+walkConditions m root a =
+    (13, wrongMemory m) ∷ (10, wrongRoot oldSplit root) ∷ (8, refuses8 (record { kind = Read; a = a; b = 1; c = 0 }) oldWindow) ∷ []
 
 -- A number is given only when its condition holds and none before it does.
 unfoldable pub Given : ℕ → List (ℕ × Bool) → Type 0

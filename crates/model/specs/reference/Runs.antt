@@ -9,16 +9,16 @@ use lib.ListN.{replicate}
 use Rattle.model.specs.Numbers.{Result, ok, fault, refused, shown}
 use Rattle.model.specs.reference.Rules.{State, fresh, plainStep, Held, Places, Move, moves, chipStep}
 use Rattle.model.specs.step.Machine.{After}
-use Rattle.model.specs.Types.{Registers, Operation}
+use Rattle.model.specs.Types.{Registers, Setting, Operation}
 
 -- the last of what a run gives, or what it began with
 unfoldable pub last : {A : Type 0} → A → List A → A
 last x [] = x
 last x (y ∷ ys) = last y ys
 
--- ── A checker: a start, given memory, track and root, and a step ──
+-- ── A checker: a start, given memory, track and its setting, and a step ──
 pub record Checker : Type 0 where
-  pub start : List ℕ → List ℕ → ℕ → After
+  pub start : List ℕ → List ℕ → Setting → After
   pub step : Operation → Registers → List ℕ → List ℕ → After
 
 -- Each operation is handed what the one before returned and left.

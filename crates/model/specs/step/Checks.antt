@@ -1,26 +1,31 @@
 -- The checks that stand before an access, in their order.
-use Prim.Native.Nat.{ℕ, zero, suc, _+_, _*_, _/_, _%_}
+use Prim.Native.Nat.{ℕ, zero, suc, _+_, _*_, _/_, _%_, _^_}
 use mathlib.Core.Path.{_≡_}
 use mathlib.Core.Bool.{Bool, true, false, cond}
 use mathlib.Core.List.{List, [], _∷_}
 use lib.Dec.{eqb, leb, ltb}
-use Rattle.model.specs.Limits.{addressLimit, rowSize, rootAlignment, memoryUnit, memoryMost, contextsMost, wordLimit}
+use Rattle.model.specs.Limits.{sectionSize, oldSplit, oldWindow, rowSize, memoryUnit, memoryMost, contextsMost, wordLimit}
 use Rattle.model.specs.Numbers.{checkNumber}
-use Rattle.model.specs.step.Track.{lastRow}
-use Rattle.model.specs.Types.{Registers, Operation, Kind, Read, Write, Root, Asid, Mode, All, Addr, Ctx, AddrCtx, Fetch, Domain, Refusal, WrongSize, WrongAddress, WrongValue, WrongRoot, WrongContext, WrongMode, WrongLengths, WrongRegisters, UserMode, WrongDomains, NotContext0, Check, Pass, Refuse}
+use Rattle.model.specs.step.Track.{rowsOf, lastRow}
+use Rattle.model.specs.Types.{Registers, Setting, Operation, Kind, Read, Write, Root, Asid, Mode, All, Addr, Ctx, AddrCtx, Fetch, Domain, Refusal, WrongSize, WrongAddress, WrongValue, WrongRoot, WrongContext, WrongMode, WrongLengths, WrongRegisters, UserMode, WrongDomains, NotContext0, Check, Pass, Refuse}
 
 -- whether n bytes can be a memory, and n words a track
 unfoldable pub memoryFits : ℕ → Bool
 memoryFits n = cond (eqb (n % memoryUnit) 0) (cond (leb memoryUnit n) (leb n memoryMost) false) false
 
-unfoldable pub trackFits : ℕ → Bool
-trackFits n = cond (eqb (n % rowSize) 0) (cond (leb (2 * rowSize) n) (leb n ((contextsMost + 1) * rowSize)) false) false
+unfoldable pub trackFits : ℕ → ℕ → Bool
+trackFits w n =
+    cond (eqb (rowsOf w n * rowSize w) n) (cond (leb 2 (rowsOf w n)) (leb (rowsOf w n) (contextsMost + 1)) false) false
 
-unfoldable pub lengthsFit : ℕ → ℕ → Bool
-lengthsFit m t = cond (memoryFits m) (trackFits t) false
+unfoldable pub lengthsFit : ℕ → ℕ → ℕ → Bool
+lengthsFit w m t = cond (memoryFits m) (trackFits w t) false
 
-unfoldable pub rootFits : ℕ → Bool
-rootFits root = eqb (root % rootAlignment) 0
+-- with N, a root is a multiple of this: 16,384 shifted right
+unfoldable pub alignmentOf : ℕ → ℕ
+alignmentOf n = cond (ltb n 15) (16384 / 2 ^ n) 1
+
+unfoldable pub rootFits : ℕ → ℕ → Bool
+rootFits n root = eqb (root % alignmentOf n) 0
 
 -- whether none of the lowest n fields of a domain register is 2, and none of its sixteen
 unfoldable pub fieldsFit : ℕ → ℕ → Bool
@@ -33,7 +38,7 @@ domainsFit w = fieldsFit 16 w
 -- whether registers are in range with k contexts
 unfoldable pub registersFit : Registers → ℕ → Bool
 registersFit r k =
-    cond (rootFits (r .root)) (cond (ltb (r .context) k) (cond (leb (r .mode) 1) (domainsFit (r .domains)) false) false) false
+    cond (rootFits oldSplit (r .root)) (cond (ltb (r .context) k) (cond (leb (r .mode) 1) (domainsFit (r .domains)) false) false) false
 
 -- Each of the following says whether a kind of operation passes one check.
 abbrev pub isSize : ℕ → Bool
@@ -52,18 +57,22 @@ sizeFits AddrCtx b = true
 sizeFits Fetch b = true
 sizeFits Domain b = true
 
-unfoldable pub addressFits : Kind → ℕ → Bool
-addressFits Read a = ltb a addressLimit
-addressFits Write a = ltb a addressLimit
-addressFits Root a = true
-addressFits Asid a = true
-addressFits Mode a = true
-addressFits All a = true
-addressFits Addr a = ltb a addressLimit
-addressFits Ctx a = true
-addressFits AddrCtx a = ltb a addressLimit
-addressFits Fetch a = ltb a addressLimit
-addressFits Domain a = true
+-- whether an address lies in a window of w MiB
+abbrev pub inWindow : ℕ → ℕ → Bool
+inWindow w a = ltb (a / sectionSize) w
+
+unfoldable pub addressFits : ℕ → Kind → ℕ → Bool
+addressFits w Read a = inWindow w a
+addressFits w Write a = inWindow w a
+addressFits w Root a = true
+addressFits w Asid a = true
+addressFits w Mode a = true
+addressFits w All a = true
+addressFits w Addr a = inWindow w a
+addressFits w Ctx a = true
+addressFits w AddrCtx a = inWindow w a
+addressFits w Fetch a = inWindow w a
+addressFits w Domain a = true
 
 abbrev pub fitsSize : ℕ → ℕ → Bool
 fitsSize b c = cond (eqb b 1) (ltb c 256) (cond (eqb b 2) (ltb c 65536) (cond (eqb b 4) (ltb c wordLimit) true))
@@ -81,18 +90,18 @@ valueFits AddrCtx b c = true
 valueFits Fetch b c = true
 valueFits Domain b c = true
 
-unfoldable pub newRootFits : Kind → ℕ → Bool
-newRootFits Read a = true
-newRootFits Write a = true
-newRootFits Root a = rootFits a
-newRootFits Asid a = true
-newRootFits Mode a = true
-newRootFits All a = true
-newRootFits Addr a = true
-newRootFits Ctx a = true
-newRootFits AddrCtx a = true
-newRootFits Fetch a = true
-newRootFits Domain a = true
+unfoldable pub newRootFits : ℕ → Kind → ℕ → Bool
+newRootFits n Read a = true
+newRootFits n Write a = true
+newRootFits n Root a = rootFits n a
+newRootFits n Asid a = true
+newRootFits n Mode a = true
+newRootFits n All a = true
+newRootFits n Addr a = true
+newRootFits n Ctx a = true
+newRootFits n AddrCtx a = true
+newRootFits n Fetch a = true
+newRootFits n Domain a = true
 
 unfoldable pub contextFits : Kind → ℕ → ℕ → ℕ → Bool
 contextFits Read a b k = true
@@ -164,13 +173,13 @@ rootMayChange Domain context = true
 -- the checks of an operation on a memory of m bytes and a track of t words: what should hold, and the refusal where it does not
 unfoldable pub checks : Operation → Registers → ℕ → ℕ → List (Bool × Refusal)
 checks o r m t =
-    (lengthsFit m t, WrongLengths)
-    ∷ (registersFit r (lastRow t), WrongRegisters)
+    (lengthsFit oldWindow m t, WrongLengths)
+    ∷ (registersFit r (lastRow oldWindow t), WrongRegisters)
     ∷ (sizeFits (o .kind) (o .b), WrongSize)
-    ∷ (addressFits (o .kind) (o .a), WrongAddress)
+    ∷ (addressFits oldWindow (o .kind) (o .a), WrongAddress)
     ∷ (valueFits (o .kind) (o .b) (o .c), WrongValue)
-    ∷ (newRootFits (o .kind) (o .a), WrongRoot)
-    ∷ (contextFits (o .kind) (o .a) (o .b) (lastRow t), WrongContext)
+    ∷ (newRootFits oldSplit (o .kind) (o .a), WrongRoot)
+    ∷ (contextFits (o .kind) (o .a) (o .b) (lastRow oldWindow t), WrongContext)
     ∷ (modeFits (o .kind) (o .a), WrongMode)
     ∷ (newDomainsFit (o .kind) (o .a), WrongDomains)
     ∷ (mayAsk (o .kind) (r .mode), UserMode)
@@ -178,8 +187,8 @@ checks o r m t =
     ∷ []
 
 -- the checks of a start
-unfoldable pub startChecks : ℕ → ℕ → ℕ → List (Bool × Refusal)
-startChecks m t root = (lengthsFit m t, WrongLengths) ∷ (rootFits root, WrongRoot) ∷ []
+unfoldable pub startChecks : ℕ → ℕ → Setting → List (Bool × Refusal)
+startChecks m t g = (lengthsFit oldWindow m t, WrongLengths) ∷ (rootFits oldSplit (g .root), WrongRoot) ∷ []
 
 -- the first check that fails
 unfoldable pub firstFailing : List (Bool × Refusal) → Check

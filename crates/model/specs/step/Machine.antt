@@ -5,14 +5,14 @@ use mathlib.Core.Bool.{Bool, true, false, cond}
 use mathlib.Core.List.{List}
 use lib.Dec.{eqb}
 use lib.ListN.{length}
-use Rattle.model.specs.Limits.{pageSize}
+use Rattle.model.specs.Limits.{pageSize, oldWindow}
 use Rattle.model.specs.Numbers.{shown}
 use Rattle.model.specs.step.Memory.{bytesOf, within, loadAt, writtenAt}
 use Rattle.model.specs.step.Walk.{walkPage}
 use Rattle.model.specs.step.Rights.{fieldAt, rulingOf}
 use Rattle.model.specs.step.Track.{noteTrack, flushAll, flushPage, flushContext, flushPageIn, stalePage}
 use Rattle.model.specs.step.Checks.{checks, startChecks, firstFailing}
-use Rattle.model.specs.Types.{Registers, Returned, Operation, Kind, Read, Write, Root, Asid, Mode, All, Addr, Ctx, AddrCtx, Fetch, Domain, Entry, Alignment, Fault, SectionDomain, PageDomain, SectionPermission, PagePermission, AccessOutside, Refusal, StalePage, Answer, Done, Faulted, Refused, Size, One, Two, Four, Purpose, ToRead, ToWrite, ToFetch, Ruling, Allowed, PermissionDenied, DomainDenied, Loaded, Value, Outside, Outcome, Mapped, Failed, Check, Pass, Refuse, Access, Stale, Fails, Physical}
+use Rattle.model.specs.Types.{Registers, Setting, Tables, Returned, Operation, Kind, Read, Write, Root, Asid, Mode, All, Addr, Ctx, AddrCtx, Fetch, Domain, Entry, Alignment, Fault, SectionDomain, PageDomain, SectionPermission, PagePermission, AccessOutside, Refusal, StalePage, Answer, Done, Faulted, Refused, Size, One, Two, Four, Purpose, ToRead, ToWrite, ToFetch, Ruling, Allowed, PermissionDenied, DomainDenied, Loaded, Value, Outside, Outcome, Mapped, Failed, Check, Pass, Refuse, Access, Stale, Fails, Physical}
 
 -- What a start or an operation gives: what it returns, and what it leaves in memory and track.
 pub record After : Type 0 where
@@ -30,9 +30,13 @@ pub record Gives (y : After) (x : Returned) (m t : List ℕ) : Type 0 where
   pub memory : m ≡ y .memory
   pub track : t ≡ y .track
 
+-- the tables that the registers name
+abbrev pub tablesOf : Registers → Tables
+tablesOf r = record { root = r .root }
+
 -- carried out: the track is noted with the registers and the memory left
 abbrev pub carried : Answer → Registers → List ℕ → List ℕ → After
-carried x r m t = record { answer = x; registers = r; memory = m; track = noteTrack m (r .root) (r .context) t }
+carried x r m t = record { answer = x; registers = r; memory = m; track = noteTrack oldWindow m (tablesOf r) (r .context) t }
 
 -- turned back: all as given
 abbrev pub turnedBack : Refusal → Registers → List ℕ → List ℕ → After
@@ -71,8 +75,8 @@ decided x isStale r purpose size a m =
 
 unfoldable pub accessAt : Registers → List ℕ → List ℕ → Purpose → Size → ℕ → Access
 accessAt r m t purpose size a =
-    let x = walkPage m (r .root) (a / pageSize) in
-    decided x (stalePage t (r .context) (a / pageSize) x) r purpose size a m
+    let x = walkPage m (tablesOf r) (a / pageSize) in
+    decided x (stalePage oldWindow t (r .context) (a / pageSize) x) r purpose size a m
 
 -- the number that loading found: an access has tested that it lies in memory
 abbrev pub valueOf : Loaded → ℕ
@@ -119,10 +123,10 @@ operate Write o r m t = writeStep (o .a) (sizeOf (o .b)) (o .c) r m t
 operate Root o r m t = carried (Done 0) (withRoot r (o .a)) m t
 operate Asid o r m t = carried (Done 0) (withContext r (o .a)) m t
 operate Mode o r m t = carried (Done 0) (withMode r (o .a)) m t
-operate All o r m t = carried (Done 0) r m (flushAll t)
-operate Addr o r m t = carried (Done 0) r m (flushPage (o .a / pageSize) t)
-operate Ctx o r m t = carried (Done 0) r m (flushContext (o .a) t)
-operate AddrCtx o r m t = carried (Done 0) r m (flushPageIn (o .b) (o .a / pageSize) t)
+operate All o r m t = carried (Done 0) r m (flushAll oldWindow t)
+operate Addr o r m t = carried (Done 0) r m (flushPage oldWindow (o .a / pageSize) t)
+operate Ctx o r m t = carried (Done 0) r m (flushContext oldWindow (o .a) t)
+operate AddrCtx o r m t = carried (Done 0) r m (flushPageIn oldWindow (o .b) (o .a / pageSize) t)
 operate Fetch o r m t = fetchStep (o .a) r m t
 operate Domain o r m t = carried (Done 0) (withDomains r (o .a)) m t
 
@@ -135,16 +139,16 @@ unfoldable pub stepped : Operation → Registers → List ℕ → List ℕ → A
 stepped o r m t = afterChecks (firstFailing (checks o r (length m) (length t))) o r m t
 
 -- registers at start, and those that a refused start returns
-abbrev pub startRegisters : ℕ → Registers
-startRegisters root = record { root = root; context = 0; mode = 0; domains = 0x55555555 }
+abbrev pub startRegisters : Setting → Registers
+startRegisters g = record { root = g .root; context = 0; mode = 0; domains = 0x55555555 }
 
 abbrev pub zeroRegisters : Registers
 zeroRegisters = record { root = 0; context = 0; mode = 0; domains = 0 }
 
-abbrev pub startedBy : Check → List ℕ → List ℕ → ℕ → After
-startedBy (Refuse n) m t root = turnedBack n zeroRegisters m t
-startedBy Pass m t root = carried (Done 0) (startRegisters root) m (flushAll t)
+abbrev pub startedBy : Check → List ℕ → List ℕ → Setting → After
+startedBy (Refuse n) m t g = turnedBack n zeroRegisters m t
+startedBy Pass m t g = carried (Done 0) (startRegisters g) m (flushAll oldWindow t)
 
 -- start: context 0, kernel mode, each field of the domain register 1, the track emptied and noted
-unfoldable pub started : List ℕ → List ℕ → ℕ → After
-started m t root = startedBy (firstFailing (startChecks (length m) (length t) root)) m t root
+unfoldable pub started : List ℕ → List ℕ → Setting → After
+started m t g = startedBy (firstFailing (startChecks (length m) (length t) g)) m t g

@@ -15,6 +15,10 @@ mapFirst f i (suc n) (w ∷ ws) = f i w ∷ mapFirst f (suc i) n ws
 abbrev pub mapWords : (ℕ → ℕ → ℕ) → List ℕ → List ℕ
 mapWords f l = mapFirst f 0 (length l) l
 
+-- where a row starts in n words, or n where it starts past them
+unfoldable pub rowStart : ℕ → ℕ → ℕ → ℕ
+rowStart size row n = cond (leb (row * size) n) (row * size) n
+
 -- the part of this size from `start` on, changed by f
 abbrev pub inPart : ℕ → ℕ → (List ℕ → List ℕ) → List ℕ → List ℕ
 inPart start size f l = take start l ++ (f (take size (drop start l)) ++ drop size (drop start l))

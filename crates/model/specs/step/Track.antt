@@ -7,7 +7,7 @@ use lib.ListN.{length, getD, set}
 use Rattle.model.specs.Limits.{rowSize, wordLimit}
 use Rattle.model.specs.step.Walk.{walkPage}
 use Rattle.model.specs.step.Rows.{mapWords, inRow, eachRow}
-use Rattle.model.specs.Types.{Entry, Outcome, Mapped, Failed}
+use Rattle.model.specs.Types.{Entry, Tables, Outcome, Mapped, Failed}
 
 -- the word of one entry
 abbrev pub entryWord : Entry → ℕ
@@ -29,19 +29,22 @@ abbrev pub addOutcome : ℕ → ℕ → Outcome → ℕ
 addOutcome g w (Mapped e) = cond (eqb (e .global) g) (addEntry g w (entryWord e)) w
 addOutcome g w (Failed f) = w
 
-unfoldable pub notePage : List ℕ → ℕ → ℕ → ℕ → ℕ → ℕ
-notePage m root g page w = addOutcome g w (walkPage m root page)
+unfoldable pub notePage : List ℕ → Tables → ℕ → ℕ → ℕ → ℕ
+notePage m tables g page w = addOutcome g w (walkPage m tables page)
 
-abbrev pub noteRow : List ℕ → ℕ → ℕ → List ℕ → List ℕ
-noteRow m root g row = mapWords (notePage m root g) row
+abbrev pub noteRow : List ℕ → Tables → ℕ → List ℕ → List ℕ
+noteRow m tables g row = mapWords (notePage m tables g) row
 
--- the number of the last row of n words: the global row of a track, and how many contexts it has
-unfoldable pub lastRow : ℕ → ℕ
-lastRow n = n / rowSize - 1
+-- with a window of w MiB, how many rows n words have, and the number of the last: the global row of a track, and how many contexts it has
+abbrev pub rowsOf : ℕ → ℕ → ℕ
+rowsOf w n = n / rowSize w
+
+unfoldable pub lastRow : ℕ → ℕ → ℕ
+lastRow w n = rowsOf w n - 1
 
 -- the track with the row of a context noted, then the global row
-unfoldable pub noteTrack : List ℕ → ℕ → ℕ → List ℕ → List ℕ
-noteTrack m root context t = inRow rowSize (lastRow (length t)) (noteRow m root 1) (inRow rowSize context (noteRow m root 0) t)
+unfoldable pub noteTrack : ℕ → List ℕ → Tables → ℕ → List ℕ → List ℕ
+noteTrack w m tables context t = inRow (rowSize w) (lastRow w (length t)) (noteRow m tables 1) (inRow (rowSize w) context (noteRow m tables 0) t)
 
 -- a row with the set of one page empty, and with every set empty
 abbrev pub emptyPage : ℕ → List ℕ → List ℕ
@@ -51,21 +54,21 @@ abbrev pub emptyRow : List ℕ → List ℕ
 emptyRow row = mapWords (λ (i w : ℕ). 0) row
 
 -- the four flushes of a track: every set; a page in every row; a context's row; a page in a context's row and in the global row
-unfoldable pub flushAll : List ℕ → List ℕ
-flushAll t = eachRow rowSize (length t / rowSize) emptyRow t
+unfoldable pub flushAll : ℕ → List ℕ → List ℕ
+flushAll w t = eachRow (rowSize w) (rowsOf w (length t)) emptyRow t
 
-unfoldable pub flushPage : ℕ → List ℕ → List ℕ
-flushPage page t = eachRow rowSize (length t / rowSize) (emptyPage page) t
+unfoldable pub flushPage : ℕ → ℕ → List ℕ → List ℕ
+flushPage w page t = eachRow (rowSize w) (rowsOf w (length t)) (emptyPage page) t
 
-unfoldable pub flushContext : ℕ → List ℕ → List ℕ
-flushContext context t = inRow rowSize context emptyRow t
+unfoldable pub flushContext : ℕ → ℕ → List ℕ → List ℕ
+flushContext w context t = inRow (rowSize w) context emptyRow t
 
-unfoldable pub flushPageIn : ℕ → ℕ → List ℕ → List ℕ
-flushPageIn context page t = inRow rowSize (lastRow (length t)) (emptyPage page) (inRow rowSize context (emptyPage page) t)
+unfoldable pub flushPageIn : ℕ → ℕ → ℕ → List ℕ → List ℕ
+flushPageIn w context page t = inRow (rowSize w) (lastRow w (length t)) (emptyPage page) (inRow (rowSize w) context (emptyPage page) t)
 
 -- the word of a row and a page
-abbrev pub wordAt : List ℕ → ℕ → ℕ → ℕ
-wordAt t row page = getD t (row * rowSize + page) 0
+abbrev pub wordAt : ℕ → List ℕ → ℕ → ℕ → ℕ
+wordAt w t row page = getD t (row * rowSize w + page) 0
 
 -- whether a word of a row of kind g makes its page stale
 unfoldable pub staleWord : ℕ → ℕ → Outcome → Bool
@@ -73,6 +76,6 @@ staleWord g w (Mapped e) = cond (eqb w 0) false (cond (eqb (e .global) g) (cond 
 staleWord g w (Failed f) = cond (eqb w 0) false true
 
 -- whether a page is stale: by its word in the row of a context, or by its word in the global row
-unfoldable pub stalePage : List ℕ → ℕ → ℕ → Outcome → Bool
-stalePage t context page x =
-    cond (staleWord 0 (wordAt t context page) x) true (staleWord 1 (wordAt t (lastRow (length t)) page) x)
+unfoldable pub stalePage : ℕ → List ℕ → ℕ → ℕ → Outcome → Bool
+stalePage w t context page x =
+    cond (staleWord 0 (wordAt w t context page) x) true (staleWord 1 (wordAt w t (lastRow w (length t)) page) x)

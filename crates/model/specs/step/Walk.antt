@@ -4,7 +4,7 @@ use mathlib.Core.Bool.{Bool, true, false, cond}
 use mathlib.Core.List.{List}
 use lib.Dec.{eqb}
 use Rattle.model.specs.step.Memory.{loadAt}
-use Rattle.model.specs.Types.{Entry, FirstUnmapped, SecondUnmapped, FirstOutside, SecondOutside, Four, Loaded, Value, Outside, Pointer, FirstLevel, Failing, Table, Section, Outcome, Mapped, Failed}
+use Rattle.model.specs.Types.{Entry, FirstUnmapped, SecondUnmapped, FirstOutside, SecondOutside, Four, Loaded, Value, Outside, Pointer, FirstLevel, Failing, Table, Section, Tables, Outcome, Mapped, Failed}
 
 -- the AP of a section's word, and of a page's
 abbrev pub sectionAp : ℕ → ℕ
@@ -71,8 +71,8 @@ abbrev pub firstFrom : Loaded → ℕ → FirstLevel
 firstFrom (Value w) page = firstOf w page
 firstFrom Outside page = Failing FirstOutside
 
-unfoldable pub firstAt : List ℕ → ℕ → ℕ → FirstLevel
-firstAt m root page = firstFrom (descriptorAt m (root + 4 * (page / 256))) page
+unfoldable pub firstAt : List ℕ → Tables → ℕ → FirstLevel
+firstAt m tables page = firstFrom (descriptorAt m (tables .root + 4 * (page / 256))) page
 
 -- what a level-two word says of a page, in a table of domain d
 unfoldable pub secondOf : ℕ → ℕ → ℕ → Outcome
@@ -93,5 +93,5 @@ walkFrom (Failing f) m page = Failed f
 walkFrom (Section e) m page = Mapped e
 walkFrom (Table table) m page = secondAt m table page
 
-unfoldable pub walkPage : List ℕ → ℕ → ℕ → Outcome
-walkPage m root page = walkFrom (firstAt m root page) m page
+unfoldable pub walkPage : List ℕ → Tables → ℕ → Outcome
+walkPage m tables page = walkFrom (firstAt m tables page) m page

@@ -2,13 +2,12 @@
 use Prim.Native.Nat.{ℕ, _+_, _/_}
 use mathlib.Core.Bool.{cond}
 use mathlib.Core.List.{List}
-use lib.Dec.{ltb}
 use lib.ListN.{length}
-use Rattle.model.specs.Limits.{pageSize, addressLimit}
+use Rattle.model.specs.Limits.{pageSize, oldSplit, oldWindow}
 use Rattle.model.specs.Numbers.{faultNumber, refusalNumber}
 use Rattle.model.specs.step.Walk.{walkPage}
 use Rattle.model.specs.step.Track.{entryWord}
-use Rattle.model.specs.step.Checks.{memoryFits, rootFits}
+use Rattle.model.specs.step.Checks.{memoryFits, rootFits, inWindow}
 use Rattle.model.specs.Types.{Outcome, Mapped, Failed, WrongLengths, WrongRoot, WrongAddress}
 
 abbrev pub outcomeNumber : Outcome → ℕ
@@ -19,7 +18,7 @@ outcomeNumber (Failed f) = 0x100000000 + faultNumber f
 unfoldable pub walkAnswer : List ℕ → ℕ → ℕ → ℕ
 walkAnswer m root a =
     cond (memoryFits (length m))
-    (cond (rootFits root)
-    (cond (ltb a addressLimit) (outcomeNumber (walkPage m root (a / pageSize))) (0x200000000 + refusalNumber WrongAddress))
+    (cond (rootFits oldSplit root)
+    (cond (inWindow oldWindow a) (outcomeNumber (walkPage m (record { root = root }) (a / pageSize))) (0x200000000 + refusalNumber WrongAddress))
     (0x200000000 + refusalNumber WrongRoot))
     (0x200000000 + refusalNumber WrongLengths)

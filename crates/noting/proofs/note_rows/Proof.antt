@@ -2,6 +2,7 @@ use Prim.Native.Nat.{ℕ}
 use mathlib.Core.Path.{ap₂, _∙_}
 use mathlib.Core.List.{List}
 use denote.Ref.{now}
+use Rattle.model.specs.Limits.{rowSize}
 use Rattle.model.specs.step.Rows.{inRow}
 use Rattle.model.specs.step.Track.{noteRow, noteTrack}
 use borrow.Author.Needs.{needs}
@@ -27,7 +28,7 @@ same-length c = search needs
 returns : tie.Need-returns
 unfolding noteTrack
 returns c = let first = c .before .before .before .before .before .before in let last = first .before .before in let a = last .before .before .before .args in
-    c .before .before .note-in2 .ensures ∙ ap₂ (λ (n : ℕ) (l : List ℕ). inRow 1024 n (noteRow (now (a .m)) (a .root) 1) l) (last .last-row .ensures) (first .note-in .ensures)
+    c .before .before .note-in2 .ensures ∙ ap₂ (λ (n : ℕ) (l : List ℕ). inRow (rowSize (a .window)) n (noteRow (now (a .m)) (a .tables) 1) l) (last .last-row .ensures) (first .note-in .ensures)
 
 pub note-rows-spec : {M : Type 1} → statement M
 note-rows-spec =

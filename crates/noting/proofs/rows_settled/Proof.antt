@@ -20,17 +20,20 @@ use Rattle.noting.proofs.changes_of_mib.Reads as changes-of-mib-reads
 use Rattle.noting.proofs.mib_end.Reads as mib-end-reads
 
 abbrev Inv-loop : tie.InvT-loop
-Inv-loop m root own shared page₀ page = (page ≤ length own) × (Through (notePage m root) page own shared × (page < length own → page % mibPages ≡ 0))
+Inv-loop m tables own shared page₀ page = (page ≤ length own) × (Through (notePage m tables) page own shared × (page < length own → page % mibPages ≡ 0))
 
 abbrev μ-loop : tie.MeasureT-loop
-μ-loop m root own shared page₀ page = length own - page
+μ-loop m tables own shared page₀ page = length own - page
 
 loop-holds : tie.Need-loop-holds Inv-loop μ-loop
 loop-holds c = let a = c .before .before .before .args in
-    (zero-le, (through-none (notePage (now (a .m)) (a .root)) (now (a .own)) (now (a .shared)), λ h. refl))
+    (zero-le, (through-none (notePage (now (a .m)) (a .tables)) (now (a .own)) (now (a .shared)), λ h. refl))
 
 mib-end-requires : tie.Need-mib-end-requires Inv-loop μ-loop
 mib-end-requires c κs = omega arith
+
+cast-first : tie.Need-cast-first Inv-loop μ-loop
+cast-first c = search needs
 
 mul-first : tie.Need-mul-first Inv-loop μ-loop
 mul-first c = omega arith
@@ -57,10 +60,10 @@ sub-changes-of-mib-2 : tie.Need-sub-changes-of-mib-2 Inv-loop μ-loop
 sub-changes-of-mib-2 c = omega arith
 
 part-changes-of-mib-start-2 : tie.Need-part-changes-of-mib-start-2 Inv-loop μ-loop
-part-changes-of-mib-start-2 c = omega (arith, c .before .before .before .before .before .before .before .pre)
+part-changes-of-mib-start-2 c = omega (arith, c .before .before .before .before .before .before .before .before .pre)
 
 part-changes-of-mib-end-2 : tie.Need-part-changes-of-mib-end-2 Inv-loop μ-loop
-part-changes-of-mib-end-2 c = omega (arith, c .before .before .before .before .before .before .before .pre)
+part-changes-of-mib-end-2 c = omega (arith, c .before .before .before .before .before .before .before .before .pre)
 
 changes-of-mib-requires : tie.Need-changes-of-mib-requires Inv-loop μ-loop
 changes-of-mib-requires c κs = search needs
@@ -72,7 +75,7 @@ loop-less : tie.Need-loop-less Inv-loop μ-loop
 loop-less c = omega arith
 
 loop-again : tie.Need-loop-again Inv-loop μ-loop
-loop-again c = let e = c .before .before .before .before in let l = e .before .before in let s = l .before .before .before .before in let a = s .args in
+loop-again c = let e = c .before .before .before .before .before in let l = e .before .before in let s = l .before .before .before .before in let a = s .args in
     let page : ℕ = l .loop .page in
     let starts : page % mibPages ≡ 0 = l .loop .inv .1 .1 (omega arith) in
     let k : ℕ = e .mib-end .result - page in
@@ -81,8 +84,8 @@ loop-again c = let e = c .before .before .before .before in let l = e .before .b
       omega arith,
       (
         record {
-          inOwn = still-part (notePage (now (a .m)) (a .root) 0) (now (a .own)) page k (l .loop .inv .1 .0 .inOwn) (omega arith) (z .inOwn ∙ sym (by-mib (now (a .m)) (a .root) 0 page k (drop page (now (a .own))) starts (omega arith))) ∙ ap (λ (n : ℕ). mapFirst (notePage (now (a .m)) (a .root) 0) 0 n (now (a .own))) whole;
-          inShared = still-part (notePage (now (a .m)) (a .root) 1) (now (a .shared)) page k (l .loop .inv .1 .0 .inShared) (omega (arith, s .pre)) (z .inShared ∙ sym (by-mib (now (a .m)) (a .root) 1 page k (drop page (now (a .shared))) starts (omega arith))) ∙ ap (λ (n : ℕ). mapFirst (notePage (now (a .m)) (a .root) 1) 0 n (now (a .shared))) whole;
+          inOwn = still-part (notePage (now (a .m)) (a .tables) 0) (now (a .own)) page k (l .loop .inv .1 .0 .inOwn) (omega arith) (z .inOwn ∙ sym (by-mib (now (a .m)) (a .tables) 0 page k (drop page (now (a .own))) starts (omega arith))) ∙ ap (λ (n : ℕ). mapFirst (notePage (now (a .m)) (a .tables) 0) 0 n (now (a .own))) whole;
+          inShared = still-part (notePage (now (a .m)) (a .tables) 1) (now (a .shared)) page k (l .loop .inv .1 .0 .inShared) (omega (arith, s .pre)) (z .inShared ∙ sym (by-mib (now (a .m)) (a .tables) 1 page k (drop page (now (a .shared))) starts (omega arith))) ∙ ap (λ (n : ℕ). mapFirst (notePage (now (a .m)) (a .tables) 1) 0 n (now (a .shared))) whole;
         },
         λ h. omega (arith, e .mib-end .ensures .1 .1 .1 (omega arith), starts),
       ),
@@ -91,7 +94,7 @@ loop-again c = let e = c .before .before .before .before in let l = e .before .b
 returns-2 : tie.Need-returns-2 Inv-loop μ-loop
 returns-2 c = let l = c .before in let s = l .before .before .before .before in let a = s .args in
     let all : l .loop .page ≡ length (now (a .own)) = le-antisymm (l .loop .inv .0) (c .loop-test .left) in
-    λ h. through-all (notePage (now (a .m)) (a .root)) (l .loop .page) (now (a .own)) (now (a .shared)) (l .loop .inv .1 .0) all (all ∙ sym (s .pre))
+    λ h. through-all (notePage (now (a .m)) (a .tables)) (l .loop .page) (now (a .own)) (now (a .shared)) (l .loop .inv .1 .0) all (all ∙ sym (s .pre))
 
 pub rows-settled-spec : {M : Type 1} → statement M
 rows-settled-spec =
@@ -101,6 +104,7 @@ rows-settled-spec =
     μ-loop
     loop-holds
     mib-end-requires
+    cast-first
     mul-first
     add-first
     mul-changes-of-mib

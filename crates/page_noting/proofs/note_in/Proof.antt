@@ -1,18 +1,30 @@
-use Prim.Native.Nat.{_*_}
+use mathlib.Core.Path.{refl}
 use native.Mathlib.Nat.{add-sub-cancel-left}
 use native.Mathlib.Omega.{arith}
+use lib.ListN.{length}
 use denote.Ref.{now}
-use Rattle.track.proofs.Rows.{put-row, no-row}
+use Rattle.model.specs.Limits.{rowSize}
 use Rattle.runs.specs.Step.{noteFound}
+use Rattle.limits.proofs.Sizes.{row-fits}
+use Rattle.track.proofs.Rows.{put-from, none-past}
 use borrow.Author.Needs.{needs}
 use Rattle.page_noting.proofs.note_in.Statement.{statement}
 use Rattle.page_noting.proofs.note_in.Tie as tie
 use Rattle.page_noting.proofs.note_in.Reads as reads
 use Rattle.page_noting.proofs.note_in.Lts as lts
+use Rattle.limits.proofs.rows.Reads as rows-reads
+use Rattle.limits.proofs.row_size.Reads as row-size-reads
+use Rattle.limits.proofs.row_start.Reads as row-start-reads
 use Rattle.page_noting.proofs.note_found.Reads as note-found-reads
 
-mul-start : tie.Need-mul-start
-mul-start c = search needs
+rows-requires : tie.Need-rows-requires
+rows-requires c κs = search needs
+
+row-size-requires : tie.Need-row-size-requires
+row-size-requires c κs = search needs
+
+row-start-requires : tie.Need-row-start-requires
+row-start-requires c κs = search needs
 
 add-end : tie.Need-add-end
 add-end c = search needs
@@ -27,7 +39,9 @@ part-note-found-start : tie.Need-part-note-found-start
 part-note-found-start c = search needs
 
 part-note-found-end : tie.Need-part-note-found-end
-part-note-found-end c = search needs
+part-note-found-end c = let z = c .before in let i = z .before in let r = i .before in let a = r .before .before .args in
+    let room = row-fits (rowSize (a .window)) (a .row) (length (now (a .track))) _ _ _ (i .if1 .taken) (r .rows .ensures .0) (z .row-size .ensures .0) (c .row-start .ensures .0) in
+    omega arith
 
 note-found-requires : tie.Need-note-found-requires
 note-found-requires c κs = search needs
@@ -36,18 +50,22 @@ same-length : tie.Need-same-length
 same-length c = search needs
 
 returns : tie.Need-returns
-returns c = let a = c .before .before .before .before .before .before .args in
-    put-row (noteFound (a .global) (a .page) (a .o)) 1024 (a .row) _ (now (a .track)) _ (add-sub-cancel-left (a .row * 1024) 1024) (omega arith) (c .before .before .note-found .ensures)
+returns c = let s = c .before .before .before .before in let z = s .before in let i = z .before in let r = i .before in let a = r .before .before .args in
+    let room = row-fits (rowSize (a .window)) (a .row) (length (now (a .track))) _ _ _ (i .if1 .taken) (r .rows .ensures .0) (z .row-size .ensures .0) (s .row-start .ensures .0) in
+    put-from (noteFound (a .global) (a .page) (a .o)) (rowSize (a .window)) (a .row) (s .row-start .result) (z .row-size .result) _ (now (a .track)) _ (s .row-start .ensures .0) (z .row-size .ensures .0) room
+    (add-sub-cancel-left (s .row-start .result) (z .row-size .result)) (c .before .before .note-found .ensures)
 
 returns-2 : tie.Need-returns-2
-returns-2 c = let a = c .before .before .args in
-    no-row (noteFound (a .global) (a .page) (a .o)) 1024 (a .row) (now (a .track)) (omega arith)
+returns-2 c = let r = c .before in let a = r .before .before .args in
+    none-past (noteFound (a .global) (a .page) (a .o)) (rowSize (a .window)) (a .row) (r .rows .result) (now (a .track)) refl (r .rows .ensures .0) (c .if1 .left)
 
 pub note-in-spec : {M : Type 1} → statement M
 note-in-spec =
     tie.close
     (tie.spec
-    mul-start
+    rows-requires
+    row-size-requires
+    row-start-requires
     add-end
     mul-note-found
     sub-note-found

@@ -3,6 +3,7 @@ use mathlib.Core.Path.{ap, ap₂, _∙_}
 use mathlib.Core.List.{List}
 use lib.ListN.{length}
 use denote.Ref.{now}
+use Rattle.model.specs.Limits.{rowSize}
 use Rattle.model.specs.step.Rows.{inRow}
 use Rattle.model.specs.step.Track.{lastRow}
 use Rattle.model.specs.declared.Outcome.{Outcome}
@@ -35,8 +36,8 @@ returns : tie.Need-returns
 unfolding noteOnePage
 returns c = let first = c .before .before .before .before .before .before in let w = first .before .before in let last = w .before in let a = last .before .before .before .args in
     c .before .before .note-in2 .ensures
-    ∙ ap₂ (λ (n : ℕ) (l : List ℕ). inRow 1024 n (noteFound 1 (a .page) (w .walk .result)) l) (last .last-row .ensures) (first .note-in .ensures)
-    ∙ ap (λ (x : Outcome). inRow 1024 (lastRow (length (now (a .track)))) (noteFound 1 (a .page) x) (inRow 1024 (a .context) (noteFound 0 (a .page) x) (now (a .track)))) (w .walk .ensures .same)
+    ∙ ap₂ (λ (n : ℕ) (l : List ℕ). inRow (rowSize (a .window)) n (noteFound 1 (a .page) (w .walk .result)) l) (last .last-row .ensures) (first .note-in .ensures)
+    ∙ ap (λ (x : Outcome). inRow (rowSize (a .window)) (lastRow (a .window) (length (now (a .track)))) (noteFound 1 (a .page) x) (inRow (rowSize (a .window)) (a .context) (noteFound 0 (a .page) x) (now (a .track)))) (w .walk .ensures .same)
 
 pub note-page-spec : {M : Type 1} → statement M
 note-page-spec =

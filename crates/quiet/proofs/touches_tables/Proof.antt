@@ -3,7 +3,6 @@ use mathlib.Core.Path.{_≡_, refl, sym, _∙_}
 use native.Mathlib.Omega.{arith}
 use borrow.Author.Needs.{needs}
 use denote.Ref.{now}
-use Rattle.runs.specs.Used.{windowWords}
 use Rattle.runs.specs.Quiet.{touchesTables}
 use Rattle.quiet.proofs.Laws.{one-mib, met, none-left, apart}
 use Rattle.quiet.proofs.touches_tables.Statement.{statement}
@@ -14,16 +13,19 @@ use Rattle.quiet.proofs.touches_mib.Reads as touches-mib-reads
 
 -- the words below i decide
 abbrev Inv-loop : tie.InvT-loop
-Inv-loop m root at n i₀ i = (i ≤ windowWords) × (touchesTables m root i at n ≡ touchesTables m root windowWords at n)
+Inv-loop m tables mibs at n i₀ i = (i ≤ mibs) × (touchesTables m tables i at n ≡ touchesTables m tables mibs at n)
 
 abbrev μ-loop : tie.MeasureT-loop
-μ-loop m root at n i₀ i = i
+μ-loop m tables mibs at n i₀ i = i
 
 loop-holds : tie.Need-loop-holds Inv-loop μ-loop
 loop-holds c = (omega arith, refl)
 
 sub-i : tie.Need-sub-i Inv-loop μ-loop
 sub-i c = omega arith
+
+cast-touches-mib : tie.Need-cast-touches-mib Inv-loop μ-loop
+cast-touches-mib c = search needs
 
 mul-touches-mib : tie.Need-mul-touches-mib Inv-loop μ-loop
 mul-touches-mib c = omega arith
@@ -35,23 +37,23 @@ touches-mib-requires : tie.Need-touches-mib-requires Inv-loop μ-loop
 touches-mib-requires c κs = search needs
 
 returns : tie.Need-returns Inv-loop μ-loop
-returns c = let l = c .before .before .before in let a = l .before .before .args in
-    sym (met (now (a .m)) (a .root) (a .at) (a .n) (l .loop .i) (omega arith) (c .before .touches-mib .ensures) (c .if1 .taken)) ∙ l .loop .inv .1
+returns c = let l = c .before .before .before .before in let a = l .before .before .args in
+    sym (met (now (a .m)) (a .tables) (a .at) (a .n) (l .loop .i) (omega arith) (c .before .touches-mib .ensures) (c .if1 .taken)) ∙ l .loop .inv .1
 
 loop-less : tie.Need-loop-less Inv-loop μ-loop
 loop-less c = omega arith
 
 loop-again : tie.Need-loop-again Inv-loop μ-loop
-loop-again c = let l = c .before .before .before in let a = l .before .before .args in (
+loop-again c = let l = c .before .before .before .before in let a = l .before .before .args in (
   omega arith,
   sym (apart (c .before .touches-mib .ensures) (c .if1 .left))
-      ∙ sym (one-mib (now (a .m)) (a .root) (a .at) (a .n) (l .loop .i) (omega arith))
+      ∙ sym (one-mib (now (a .m)) (a .tables) (a .at) (a .n) (l .loop .i) (omega arith))
       ∙ l .loop .inv .1,
 )
 
 returns-2 : tie.Need-returns-2 Inv-loop μ-loop
 returns-2 c = let l = c .before in let a = l .before .before .args in
-    sym (none-left (now (a .m)) (a .root) (a .at) (a .n) (l .loop .i) (omega arith)) ∙ l .loop .inv .1
+    sym (none-left (now (a .m)) (a .tables) (a .at) (a .n) (l .loop .i) (omega arith)) ∙ l .loop .inv .1
 
 pub touches-tables-spec : {M : Type 1} → statement M
 touches-tables-spec =
@@ -61,6 +63,7 @@ touches-tables-spec =
     μ-loop
     loop-holds
     sub-i
+    cast-touches-mib
     mul-touches-mib
     add-touches-mib
     touches-mib-requires

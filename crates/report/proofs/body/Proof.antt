@@ -8,7 +8,7 @@ use Rattle.model.specs.Numbers.{refused, refusalNumber}
 use Rattle.model.specs.step.Machine.{started}
 use Rattle.listing.specs.Whole.{readList}
 use Rattle.report_line.specs.Text.{startName, reportLine}
-use Rattle.report.specs.Report.{bodyOf}
+use Rattle.report.specs.Report.{setting, bodyOf}
 use Rattle.report.proofs.ReportLaws.{noted-from, done-kept, faulted-kept, ran-same, ran-ended, carried-from, body-refused, body-done, body-faulted}
 use borrow.Author.Needs.{needs}
 use Rattle.report.proofs.body.Statement.{statement}
@@ -72,7 +72,7 @@ returns c =
     let t = now (a .t) in
     let l = now (a .list) in
     let k = e .answer .given .0 .0 in
-    ran-ended (bodyOf m t l) (reportLine 0 startName (refused (refusalNumber k))) (started m t 0)
+    ran-ended (bodyOf m t l) (reportLine 0 startName (refused (refusalNumber k))) (started m t setting)
     (body-refused m t l k (sym (g .start .ensures .answer) ∙ e .answer .given .1)) (g .start .ensures .memory) (g .start .ensures .track) (omega (arith, c .before .before .before .before .before .before .before .before .before .before .before .before .before .before .before .before .before .before .pre))
     (rw (sym (n .refusal-number .ensures .0)) (w .put-start .ensures))
 
@@ -95,7 +95,7 @@ returns-2 c =
     let t = now (a .t) in
     let l = now (a .list) in
     ran-same _ _
-    (carried-from (started m t 0) _ _ _ (readList l) (g .start .ensures .registers) (g .start .ensures .memory) (g .start .ensures .track)
+    (carried-from (started m t setting) _ _ _ (readList l) (g .start .ensures .registers) (g .start .ensures .memory) (g .start .ensures .track)
     ∙ sym (body-done m t l _ (sym (g .start .ensures .answer) ∙ e .enum-told .given .1))) (w .read-list .ensures)
 
 same-length-7 : tie.Need-same-length-7
@@ -117,7 +117,7 @@ returns-3 c =
     let t = now (a .t) in
     let l = now (a .list) in
     ran-same _ _
-    (carried-from (started m t 0) _ _ _ (readList l) (g .start .ensures .registers) (g .start .ensures .memory) (g .start .ensures .track)
+    (carried-from (started m t setting) _ _ _ (readList l) (g .start .ensures .registers) (g .start .ensures .memory) (g .start .ensures .track)
     ∙ sym (body-faulted m t l _ (sym (g .start .ensures .answer) ∙ e .enum-told2 .given .1))) (w .read-list2 .ensures)
 
 pub body-spec : {M : Type 1} → statement M

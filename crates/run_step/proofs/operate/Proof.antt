@@ -2,6 +2,7 @@ use Prim.Native.Nat.{ℕ}
 use mathlib.Core.Path.{_≡_, refl, sym, ap, ap₂, _∙_}
 use denote.Ref.{now}
 use mathlib.Core.List.{List}
+use Rattle.model.specs.Limits.{oldWindow}
 use Rattle.model.specs.declared.Access.{Access}
 use Rattle.model.specs.declared.Answer.the-variants.{Done}
 use Rattle.model.specs.declared.Kind.{Kind}
@@ -9,7 +10,7 @@ use Rattle.model.specs.declared.Purpose.the-variants.{ToRead, ToWrite, ToFetch}
 use Rattle.model.specs.declared.Registers.{Registers}
 use Rattle.model.specs.declared.Size.{Size}
 use Rattle.model.specs.declared.Size.the-variants.{Four}
-use Rattle.model.specs.step.Machine.{accessAt, readFrom, writeTo, readStep, writeStep, fetchStep, operate}
+use Rattle.model.specs.step.Machine.{tablesOf, accessAt, readFrom, writeTo, readStep, writeStep, fetchStep, operate}
 use Rattle.transfer.proofs.Laws.{regive}
 use Rattle.runs.specs.Step.{noPage, afterWrite, notedSoFar, extentOf, flushedBy, runOperate}
 use Rattle.run_step.proofs.Laws.{plain, finished}
@@ -142,8 +143,8 @@ returns : tie.Need-returns
 unfolding runOperate operate extentOf flushedBy readStep writeStep fetchStep
 returns c = let x = c .before .before .before in let z = x .before .before .before in let e = z .before in let a = e .before .before .before .before .args in
     regive _ _ _ _ _
-    (ap (λ (y : Access). notedSoFar noPage (readFrom y (z .size-of .result) (a .r) (now (a .m)) (now (a .t))) (now (a .t))) (x .access-at .ensures .same)
-    ∙ ap (λ (s : Size). notedSoFar noPage (readFrom (accessAt (a .r) (now (a .m)) (now (a .t)) ToRead s (a .o .a)) s (a .r) (now (a .m)) (now (a .t))) (now (a .t))) (z .size-of .ensures .same)
+    (ap (λ (y : Access). notedSoFar oldWindow noPage (readFrom y (z .size-of .result) (a .r) (now (a .m)) (now (a .t))) (now (a .t))) (x .access-at .ensures .same)
+    ∙ ap (λ (s : Size). notedSoFar oldWindow noPage (readFrom (accessAt (a .r) (now (a .m)) (now (a .t)) ToRead s (a .o .a)) s (a .r) (now (a .m)) (now (a .t))) (now (a .t))) (z .size-of .ensures .same)
     ∙ sym (ap (λ (w : Kind). runOperate w (a .o) (a .r) (now (a .m)) (now (a .t))) (e .enum-told .given .1))) (c .read-from .ensures)
 
 same-length-3 : tie.Need-same-length-3
@@ -156,8 +157,8 @@ returns-2 : tie.Need-returns-2
 unfolding runOperate operate extentOf flushedBy readStep writeStep fetchStep
 returns-2 c = let k = c .before .before .before .before in let x = k .before .before .before in let z = x .before .before .before in let e = z .before in let a = e .before .before .before .before .args in
     regive _ _ _ _ _
-    (ap (λ (y : Access). notedSoFar (afterWrite y (z .size-of2 .result) (a .r .root) (now (a .m))) (writeTo y (z .size-of2 .result) (a .o .c) (a .r) (now (a .m)) (now (a .t))) (now (a .t))) (x .access-at2 .ensures .same)
-    ∙ ap (λ (s : Size). notedSoFar (afterWrite (accessAt (a .r) (now (a .m)) (now (a .t)) ToWrite s (a .o .a)) s (a .r .root) (now (a .m))) (writeTo (accessAt (a .r) (now (a .m)) (now (a .t)) ToWrite s (a .o .a)) s (a .o .c) (a .r) (now (a .m)) (now (a .t))) (now (a .t))) (z .size-of2 .ensures .same)
+    (ap (λ (y : Access). notedSoFar oldWindow (afterWrite oldWindow y (z .size-of2 .result) (tablesOf (a .r)) (now (a .m))) (writeTo y (z .size-of2 .result) (a .o .c) (a .r) (now (a .m)) (now (a .t))) (now (a .t))) (x .access-at2 .ensures .same)
+    ∙ ap (λ (s : Size). notedSoFar oldWindow (afterWrite oldWindow (accessAt (a .r) (now (a .m)) (now (a .t)) ToWrite s (a .o .a)) s (tablesOf (a .r)) (now (a .m))) (writeTo (accessAt (a .r) (now (a .m)) (now (a .t)) ToWrite s (a .o .a)) s (a .o .c) (a .r) (now (a .m)) (now (a .t))) (now (a .t))) (z .size-of2 .ensures .same)
     ∙ sym (ap (λ (w : Kind). runOperate w (a .o) (a .r) (now (a .m)) (now (a .t))) (e .enum-told2 .given .1))) (k .write-to .ensures)
 
 same-length-5 : tie.Need-same-length-5
@@ -248,7 +249,7 @@ returns-10 : tie.Need-returns-10
 unfolding runOperate operate extentOf flushedBy readStep writeStep fetchStep
 returns-10 c = let x = c .before .before .before in let e = x .before .before .before in let a = e .before .before .before .before .args in
     regive _ _ _ _ _
-    (ap (λ (y : Access). notedSoFar noPage (readFrom y Four (a .r) (now (a .m)) (now (a .t))) (now (a .t))) (x .access-at3 .ensures .same)
+    (ap (λ (y : Access). notedSoFar oldWindow noPage (readFrom y Four (a .r) (now (a .m)) (now (a .t))) (now (a .t))) (x .access-at3 .ensures .same)
     ∙ sym (ap (λ (w : Kind). runOperate w (a .o) (a .r) (now (a .m)) (now (a .t))) (e .enum-told10 .given .1))) (c .read-from2 .ensures)
 
 returns-11 : tie.Need-returns-11

@@ -1,6 +1,7 @@
 use Prim.Native.Nat.{ℕ}
 use mathlib.Core.Path.{_≡_, refl, sym, ap, ap₂, _∙_}
 use denote.Ref.{now}
+use Rattle.model.specs.Limits.{oldWindow}
 use Rattle.model.specs.declared.Access.{Access}
 use Rattle.model.specs.declared.Answer.the-variants.{Done}
 use Rattle.model.specs.step.Machine.{readFrom, valueOf}
@@ -31,17 +32,17 @@ value-of-requires c κs = search needs
 
 returns : tie.Need-returns
 returns c = let a = c .before .before .before .before .args in
-    left _ _ _ _ _ (sym (ap (λ (z : Access). notedSoFar noPage (readFrom z (a .size) (a .r) (now (a .m)) (now (a .t))) (now (a .t))) (c .enum-told .given .1)))
+    left _ _ _ _ _ (sym (ap (λ (z : Access). notedSoFar oldWindow noPage (readFrom z (a .size) (a .r) (now (a .m)) (now (a .t))) (now (a .t))) (c .enum-told .given .1)))
 
 returns-2 : tie.Need-returns-2
 returns-2 c = let x = c .before in let a = x .before .before .before .before .args in
-    left _ _ _ _ _ (sym (ap (λ (z : Access). notedSoFar noPage (readFrom z (a .size) (a .r) (now (a .m)) (now (a .t))) (now (a .t))) (x .x .given .1)))
+    left _ _ _ _ _ (sym (ap (λ (z : Access). notedSoFar oldWindow noPage (readFrom z (a .size) (a .r) (now (a .m)) (now (a .t))) (now (a .t))) (x .x .given .1)))
 
 returns-3 : tie.Need-returns-3
 returns-3 c = let l = c .before in let x = l .before .before in let a = x .before .before .before .before .args in
     left _ _ _ _ _
     (ap (λ (n : ℕ). plain (Done n) (a .r) (now (a .m)) (now (a .t))) (c .value-of .ensures ∙ ap valueOf (l .load .ensures))
-    ∙ sym (ap (λ (z : Access). notedSoFar noPage (readFrom z (a .size) (a .r) (now (a .m)) (now (a .t))) (now (a .t))) (x .x2 .given .1)))
+    ∙ sym (ap (λ (z : Access). notedSoFar oldWindow noPage (readFrom z (a .size) (a .r) (now (a .m)) (now (a .t))) (now (a .t))) (x .x2 .given .1)))
 
 pub read-from-spec : {M : Type 1} → statement M
 read-from-spec =

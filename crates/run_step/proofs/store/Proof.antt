@@ -1,4 +1,6 @@
 use denote.Ref.{now}
+use Rattle.model.specs.Limits.{oldWindow}
+use Rattle.model.specs.step.Machine.{tablesOf}
 use Rattle.run_step.proofs.Laws.{kept, noted}
 use borrow.Author.Needs.{needs}
 use Rattle.run_step.proofs.store.Statement.{statement}
@@ -20,7 +22,7 @@ same-length c = search needs
 
 returns : tie.Need-returns
 returns c = let s = c .before .before in let i = s .before .before in let q = i .before in let a = q .before .before .before .before .args in
-    (s .store .ensures .1, kept _ (now (a .t)) (a .root) (a .context) (q .is-quiet .ensures) (i .if1 .taken))
+    (s .store .ensures .1, kept oldWindow _ (now (a .t)) (tablesOf (a .r)) (a .r .context) (q .is-quiet .ensures) (i .if1 .taken))
 
 store-and-note-requires : tie.Need-store-and-note-requires
 store-and-note-requires c κs = search needs
@@ -34,7 +36,7 @@ same-length-3 c = search needs
 returns-2 : tie.Need-returns-2
 returns-2 c = let s = c .before .before .before .before in let i = s .before .before .before in let q = i .before in let a = q .before .before .before .before .args in (
   s .store-and-note .ensures .0,
-  noted _ (now (a .t)) _ (a .root) (a .context) (q .is-quiet .ensures) (i .if1 .left) (s .store-and-note .ensures .1),
+  noted oldWindow _ (now (a .t)) _ (tablesOf (a .r)) (a .r .context) (q .is-quiet .ensures) (i .if1 .left) (s .store-and-note .ensures .1),
 )
 
 pub store-spec : {M : Type 1} → statement M

@@ -1,6 +1,7 @@
 use Prim.Native.Nat.{ℕ}
 use mathlib.Core.Path.{ap₂, _∙_}
 use mathlib.Core.List.{List}
+use Rattle.model.specs.Limits.{rowSize}
 use Rattle.model.specs.step.Rows.{inRow}
 use Rattle.model.specs.step.Track.{emptyPage, flushPageIn}
 use borrow.Author.Needs.{needs}
@@ -26,7 +27,7 @@ same-length c = search needs
 returns : tie.Need-returns
 unfolding flushPageIn
 returns c = let first = c .before .before .before .before .before .before in let last = first .before .before in let a = last .before .before .args in
-    c .before .before .empty-in2 .ensures ∙ ap₂ (λ (n : ℕ) (l : List ℕ). inRow 1024 n (emptyPage (a .page)) l) (last .last-row .ensures) (first .empty-in .ensures)
+    c .before .before .empty-in2 .ensures ∙ ap₂ (λ (n : ℕ) (l : List ℕ). inRow (rowSize (a .window)) n (emptyPage (a .page)) l) (last .last-row .ensures) (first .empty-in .ensures)
 
 pub flush-page-in-spec : {M : Type 1} → statement M
 flush-page-in-spec =

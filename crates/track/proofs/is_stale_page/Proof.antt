@@ -22,7 +22,7 @@ is-stale-requires c κs = search needs
 returns : tie.Need-returns
 unfolding stalePage
 returns c = let s = c .before in let w = s .before in let a = w .before .before .args in
-    sym (ap (λ (b : Bool). cond b true (staleWord 1 (wordAt (now (a .track)) (lastRow (length (now (a .track)))) (a .page)) (a .o)))
+    sym (ap (λ (b : Bool). cond b true (staleWord 1 (wordAt (a .window) (now (a .track)) (lastRow (a .window) (length (now (a .track)))) (a .page)) (a .o)))
     (ap (λ (n : ℕ). staleWord 0 n (a .o)) (sym (w .word-at .ensures)) ∙ sym (s .is-stale .ensures) ∙ c .if1 .taken))
 
 last-row-requires : tie.Need-last-row-requires
@@ -38,8 +38,8 @@ returns-2 : tie.Need-returns-2
 unfolding stalePage
 returns-2 c = let i = c .before .before .before in let s = i .before in let w = s .before in let a = w .before .before .args in
     c .is-stale2 .ensures
-    ∙ ap (λ (n : ℕ). staleWord 1 n (a .o)) (c .before .word-at2 .ensures ∙ ap (λ (n : ℕ). wordAt (now (a .track)) n (a .page)) (c .before .before .last-row .ensures))
-    ∙ sym (ap (λ (b : Bool). cond b true (staleWord 1 (wordAt (now (a .track)) (lastRow (length (now (a .track)))) (a .page)) (a .o)))
+    ∙ ap (λ (n : ℕ). staleWord 1 n (a .o)) (c .before .word-at2 .ensures ∙ ap (λ (n : ℕ). wordAt (a .window) (now (a .track)) n (a .page)) (c .before .before .last-row .ensures))
+    ∙ sym (ap (λ (b : Bool). cond b true (staleWord 1 (wordAt (a .window) (now (a .track)) (lastRow (a .window) (length (now (a .track)))) (a .page)) (a .o)))
     (ap (λ (n : ℕ). staleWord 0 n (a .o)) (sym (w .word-at .ensures)) ∙ sym (s .is-stale .ensures) ∙ i .if1 .left))
 
 pub is-stale-page-spec : {M : Type 1} → statement M

@@ -9,6 +9,9 @@ use Rattle.noting.proofs.note.Reads as note-reads
 store-requires : tie.Need-store-requires
 store-requires c κs = search needs
 
+cast-note : tie.Need-cast-note
+cast-note c = search needs
+
 note-requires : tie.Need-note-requires
 note-requires c κs = search needs
 
@@ -23,4 +26,4 @@ returns c = search needs
 
 pub store-and-note-spec : {M : Type 1} → statement M
 store-and-note-spec =
-    tie.close (tie.spec store-requires note-requires same-length same-length-2 returns)
+    tie.close (tie.spec store-requires cast-note note-requires same-length same-length-2 returns)

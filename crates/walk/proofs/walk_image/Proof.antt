@@ -1,5 +1,4 @@
 use mathlib.Core.Path.{ap, sym, _∙_}
-use borrow.Author.Tests.{lt-ltb, le-ltb}
 use Rattle.model.specs.step.WalkAnswer.{walkAnswer, outcomeNumber}
 use borrow.Author.Needs.{needs}
 use Rattle.walk.proofs.walk_image.Statement.{statement}
@@ -7,6 +6,7 @@ use Rattle.walk.proofs.walk_image.Tie as tie
 use Rattle.walk.proofs.walk_image.Reads as reads
 use Rattle.walk.proofs.walk_image.Lts as lts
 use Rattle.limits.proofs.memory_fits.Reads as memory-fits-reads
+use Rattle.limits.proofs.in_window.Reads as in-window-reads
 use Rattle.walk.proofs.outcome_number.Reads as outcome-number-reads
 use Rattle.limits.proofs.root_fits.Reads as root-fits-reads
 use Rattle.walk.proofs.walk.Reads as walk-reads
@@ -17,6 +17,9 @@ memory-fits-requires c κs = search needs
 root-fits-requires : tie.Need-root-fits-requires
 root-fits-requires c κs = search needs
 
+in-window-requires : tie.Need-in-window-requires
+in-window-requires c κs = search needs
+
 walk-requires : tie.Need-walk-requires
 walk-requires c κs = search needs
 
@@ -25,13 +28,13 @@ outcome-number-requires c κs = search needs
 
 returns : tie.Need-returns
 unfolding walkAnswer
-returns c = let t3 = c .before .before in let t2 = t3 .before in let t1 = t2 .before .before in
-    simp (sym (t1 .before .memory-fits .ensures) ∙ t1 .if1 .taken, sym (t2 .before .root-fits .ensures) ∙ t2 .if2 .taken, lt-ltb _ _ (t3 .if3 .taken)) (c .outcome-number .ensures ∙ c .before .walk .ensures .number)
+returns c = let t3 = c .before .before in let t2 = t3 .before .before in let t1 = t2 .before .before in
+    simp (sym (t1 .before .memory-fits .ensures) ∙ t1 .if1 .taken, sym (t2 .before .root-fits .ensures) ∙ t2 .if2 .taken, sym (t3 .before .in-window .ensures) ∙ t3 .if3 .taken) (c .outcome-number .ensures ∙ c .before .walk .ensures .number)
 
 returns-2 : tie.Need-returns-2
 unfolding walkAnswer
-returns-2 c = let t2 = c .before in let t1 = t2 .before .before in
-    simp (sym (t1 .before .memory-fits .ensures) ∙ t1 .if1 .taken, sym (t2 .before .root-fits .ensures) ∙ t2 .if2 .taken, le-ltb _ _ (c .if3 .left))
+returns-2 c = let t2 = c .before .before in let t1 = t2 .before .before in
+    simp (sym (t1 .before .memory-fits .ensures) ∙ t1 .if1 .taken, sym (t2 .before .root-fits .ensures) ∙ t2 .if2 .taken, sym (c .before .in-window .ensures) ∙ c .if3 .left)
 
 returns-3 : tie.Need-returns-3
 unfolding walkAnswer
@@ -48,6 +51,7 @@ walk-image-spec =
     (tie.spec
     memory-fits-requires
     root-fits-requires
+    in-window-requires
     walk-requires
     outcome-number-requires
     returns
