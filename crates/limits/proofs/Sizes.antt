@@ -41,9 +41,6 @@ by-start P size row n f g = go (leb (row * size) n) refl
     go true e = let h = leb-true (row * size) n e in subst P (sym (start-before size row n h)) (f h)
     go false e = let h = leb-false (row * size) n e in subst P (sym (start-past size row n h)) (g h)
 
-pub start-inside : (size row n : ℕ) → rowStart size row n ≤ n
-start-inside size row n = by-start (λ (r : ℕ). r ≤ n) size row n (λ h. h) (λ h. omega arith)
-
 -- a row that fits stands where it should
 pub start-place : (size row n : ℕ) → rowStart size row n + size ≤ n → rowStart size row n ≡ row * size
 start-place size row n = by-start (λ (r : ℕ). r + size ≤ n → r ≡ row * size) size row n (λ h k. refl) (λ h k. absurd (empty h k))

@@ -22,21 +22,21 @@ pub fn memory_fits(n: usize) -> bool
     false
 }
 
-// A root is a multiple of this.
-fn root_alignment(n: u32) -> u32
-    ensures { λ r. ⌜ (r ≡ alignmentOf n) × (0 < r) ⌝ }
+// With this N, a root is a multiple of this.
+fn root_alignment(split: u32) -> u32
+    ensures { λ r. ⌜ (r ≡ alignmentOf split) × (0 < r) ⌝ }
 {
-    if n < 15 {
-        return 16384 >> n;
+    if split < 15 {
+        return 16384 >> split;
     }
     1
 }
 
-// Whether a root has its alignment.
-pub fn root_fits(n: u32, root: u32) -> bool
-    ensures { λ r. ⌜ r ≡ rootFits n root ⌝ }
+// Whether a root has its alignment with this N.
+pub fn root_fits(split: u32, root: u32) -> bool
+    ensures { λ r. ⌜ r ≡ rootFits split root ⌝ }
 {
-    let unit = root_alignment(n);
+    let unit = root_alignment(split);
     root % unit == 0
 }
 

@@ -212,7 +212,7 @@ lookIn W t u = cond (hasRow W t (u .0) && ltb (u .1) (rowSize W)) (seenOf (kept 
 unfoldable pub presentIn : ℕ → State → Scope × ℕ → Option Entry
 presentIn W s u = cond (ltb (u .1) (rowSize W)) (mapped (u .0) (s .registers .context) (outcome s (u .1 * pageSize))) none
 
--- with the window of a state
+-- with the window of the machine
 abbrev pub look : State → List ℕ → Scope × ℕ → Seen Entry
 look s t u = lookIn oldWindow t u
 

@@ -8,7 +8,8 @@ pageSize = 4096
 abbrev pub sectionSize : ℕ
 sectionSize = 0x100000
 
--- The machine of the rules: N, of TTBCR, is 7, and its window is 4 MiB.
+-- The machine of the rules, which a later request calls the old one: N, of TTBCR, is 7, and its window is 4 MiB. So its addresses are below
+-- 0x400000, its rows have 1,024 words, and its roots are multiples of 0x80.
 abbrev pub oldSplit : ℕ
 oldSplit = 7
 

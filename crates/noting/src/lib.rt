@@ -240,7 +240,7 @@ fn rows_settled(m: &[u8], tables: Tables, own: &[u32], shared: &[u32]) -> bool
     true
 }
 
-// Whether noting leaves a track as it is; false also where the track lacks a row.
+// Whether noting leaves a track as it is; false also where the context has no row of its own.
 fn is_settled(window: u32, m: &[u8], tables: Tables, track: &[u32], context: usize) -> bool
     ensures { λ r. ⌜ (r ≡ true → now (track .entry) ≡ noteTrack window (now (m .entry)) tables context (now (track .entry))) ⌝ }
 {

@@ -154,7 +154,7 @@ pub put-from : (f : List ℕ → List ℕ) (size row start words k : ℕ) (l ys 
 put-from f size row start words k l ys at is room e q =
     put-at f size row start words k l ys (at ∙ start-place size row (length l) (rw (← at, ← is) room)) is room e q
 
--- a row past the whole rows; one of no words is where nothing is
+-- a row past the whole rows is not there; where rows have no words, f has none to change
 pub none-past : (f : List ℕ → List ℕ) (size row count : ℕ) (l : List ℕ) → f [] ≡ [] → count ≡ length l / size → count ≤ row → l ≡ inRow size row f l
 none-past f zero row count l nothing many h = sym (unfold inRow in rw (mul-zero row, le-leb 0 (length l) zero-le) (ap (λ (ys : List ℕ). ys ++ l) nothing))
 none-past f (suc s) row count l nothing many h =

@@ -317,7 +317,7 @@ putIn i context page (found e) ps =
     cond (anyClash h ps) ps (set ps i (some h))
 putIn i context page (failed n) ps = ps
 
--- A move; one that is not allowed does nothing. A load needs place i free, a page of the window that the tables
+-- A move; one that is not allowed does nothing. A load needs place i free, a page of the window (0 to 1,023) that the tables
 -- map in the current context, and that it brings about no two that match a page in some context.
 unfoldable pub move : State → Places → Move → Places
 move s ps (drop i) = set ps i none
@@ -446,7 +446,7 @@ stale w t context page y =
 unfoldable pub refuses7 : Operation → Bool
 refuses7 o = among (o .kind) (Read ∷ Write ∷ []) && not (eqb (o .b) 1 || eqb (o .b) 2 || eqb (o .b) 4)
 
--- 8 address w × 0x100000 or more, flushes included
+-- 8 address w × 0x100000 (0x400000) or more, flushes included
 unfoldable pub refuses8 : Operation → ℕ → Bool
 refuses8 o w = among (o .kind) (Read ∷ Write ∷ Addr ∷ AddrCtx ∷ Fetch ∷ []) && leb (addressLimit w) (o .a)
 
@@ -456,7 +456,7 @@ refuses9 o =
     among (o .kind) (Write ∷ [])
     && (eqb (o .b) 1 && leb 0x100 (o .c) || eqb (o .b) 2 && leb 0x10000 (o .c) || eqb (o .b) 4 && leb 0x100000000 (o .c))
 
--- 10 root not a multiple of 2^(14 − N)
+-- 10 root not a multiple of 2^(14 − N) (0x80)
 abbrev pub wrongRoot : ℕ → ℕ → Bool
 wrongRoot n root = not (eqb (root % rootAlignment n) 0)
 
@@ -471,7 +471,7 @@ refuses11 o k = among (o .kind) (Asid ∷ Ctx ∷ []) && leb k (o .a) || among (
 unfoldable pub refuses12 : Operation → Bool
 refuses12 o = among (o .kind) (Mode ∷ []) && leb 2 (o .a)
 
--- 13 lent lengths: memory a multiple of 4,096 from 4,096 to 16,777,216; track 256 × w × (k + 1), k from 1 to 256
+-- 13 lent lengths: memory a multiple of 4,096 from 4,096 to 16,777,216; track 256 × w × (k + 1) (1,024 × (k + 1)), k from 1 to 256
 abbrev pub wrongMemory : List ℕ → Bool
 wrongMemory m = not (eqb (length m % memoryUnit) 0 && leb memoryUnit (length m) && leb (length m) memoryMost)
 
@@ -489,7 +489,7 @@ someField2 (suc n) domains = someField2 n domains || eqb (fieldOf domains n) 2
 abbrev pub wrongDomains : ℕ → Bool
 wrongDomains domains = someField2 16 domains
 
--- 14 registers out of range: root a multiple of 2^(14 − N), context 0 to k − 1, mode 0 or 1, no field of the domain register 2
+-- 14 registers out of range: root a multiple of 2^(14 − N) (0x80), context 0 to k − 1, mode 0 or 1, no field of the domain register 2
 unfoldable pub refuses14 : Registers → ℕ → Bool
 refuses14 r k = wrongRoot oldSplit (r .root) || leb k (r .context) || leb 2 (r .mode) || wrongDomains (r .domains)
 
