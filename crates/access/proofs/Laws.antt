@@ -12,7 +12,7 @@ use Rattle.model.specs.declared.Registers.{Registers}
 use Rattle.model.specs.declared.Ruling.{Ruling}
 use Rattle.model.specs.declared.Size.{Size}
 use Rattle.model.specs.step.Machine.{reached, granted}
-use Rattle.model.specs.step.Rights.{field_at, rulingOf}
+use Rattle.model.specs.step.Rights.{field_at, ruling_of}
 
 -- a field of a register of which nothing is left is 0
 pub zero_field : (d : ℕ) → field_at 0 d ≡ 0
@@ -25,14 +25,14 @@ pub next_field : (d i w : ℕ) → i < d → field_at w (d - i) ≡ field_at (w 
 unfolding field_at
 next_field d i w h = ap (field_at w) (let q : d - i ≡ suc (d - (i + 1)) = omega (arith, h) in q)
 
-pub last-field : (d i w : ℕ) → d ≤ i → field_at w (d - i) ≡ w % 4
+pub last_field : (d i w : ℕ) → d ≤ i → field_at w (d - i) ≡ w % 4
 unfolding field_at
-last-field d i w h = ap (field_at w) (let q : d - i ≡ 0 = omega (arith, h) in q)
+last_field d i w h = ap (field_at w) (let q : d - i ≡ 0 = omega (arith, h) in q)
 
 -- an access to a page that entry e maps, of which, by the field of its domain, a ruling is given
 module _ (r : Registers) (x : Purpose) (size : Size) (a : ℕ) (m : List ℕ) (e : Entry) where
-  pub granted-by : {o : Outcome} {field : ℕ} {said : Ruling} {to : Access} → o ≡ Mapped e → field ≡ field_at r.domains e.domain → said ≡ rulingOf e.ap r.mode x field e.xn → to ≡ reached said e size a m → to ≡ granted o r x size a m
-  granted-by of-o of_field of-said of-to =
+  pub granted_by : {o : Outcome} {field : ℕ} {said : Ruling} {to : Access} → o ≡ Mapped e → field ≡ field_at r.domains e.domain → said ≡ ruling_of e.ap r.mode x field e.xn → to ≡ reached said e size a m → to ≡ granted o r x size a m
+  granted_by of-o of_field of-said of-to =
       of-to
-      ∙ ap (λ (y : Ruling). reached y e size a m) (of-said ∙ ap (λ (n : ℕ). rulingOf e.ap r.mode x n e.xn) of_field)
+      ∙ ap (λ (y : Ruling). reached y e size a m) (of-said ∙ ap (λ (n : ℕ). ruling_of e.ap r.mode x n e.xn) of_field)
       ∙ sym (ap (λ (y : Outcome). granted y r x size a m) of-o)

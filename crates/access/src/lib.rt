@@ -1,10 +1,10 @@
 // What an access comes to: a physical address, a fault, or that its page is stale.
 ghost use Rattle.std.specs.Prelude.{◌≡◌, cond, eqb};
-ghost use Rattle.model.specs.Numbers.{faultNumber, accessResult};
+ghost use Rattle.model.specs.Numbers.{fault_number, access_result};
 ghost use Rattle.model.specs.Telling.{Tells};
 ghost use Rattle.model.specs.step.Memory.{bytes_of};
 ghost use Rattle.model.specs.step.Rights.{field_at};
-ghost use Rattle.model.specs.step.Machine.{size_of, permissionFaultOf, domainFaultOf, reached, granted, decided, accessAt};
+ghost use Rattle.model.specs.step.Machine.{size_of, permission_fault_of, domain_fault_of, reached, granted, decided, access_at};
 
 use model::{Access, Entry, Fault, OLD_WINDOW, Outcome, Purpose, Registers, Ruling, Size, Tables};
 
@@ -49,23 +49,23 @@ fn by_level(e: Entry, section: Fault, page: Fault) -> Fault
 
 // The permission fault of an access through this entry.
 pub fn permission_fault(e: Entry) -> Fault
-    ensures { Tells faultNumber (permissionFaultOf e) result }
+    ensures { Tells fault_number (permission_fault_of e) result }
 {
     by_level(e, Fault::SectionPermission, Fault::PagePermission)
 }
 
 // The domain fault of an access through this entry.
 pub fn domain_fault(e: Entry) -> Fault
-    ensures { Tells faultNumber (domainFaultOf e) result }
+    ensures { Tells fault_number (domain_fault_of e) result }
 {
     by_level(e, Fault::SectionDomain, Fault::PageDomain)
 }
 
 // An access through an entry, of which this is said: a fault, or the bytes.
 pub fn reach(x: Ruling, e: Entry, size: Size, a: u32, m: &[u8]) -> Access
-    ensures { Tells accessResult (reached x e size a m.now) result }
+    ensures { Tells access_result (reached x e size a m.now) result }
 {
-    let at = e.frame as usize * 4096 + a as usize % 4096; // pageSize
+    let at = e.frame as usize * 4096 + a as usize % 4096; // page_size
     let found = memory::inside(m, at, size);
     let denied = permission_fault(e);
     let closed = domain_fault(e);
@@ -83,7 +83,7 @@ pub fn reach(x: Ruling, e: Entry, size: Size, a: u32, m: &[u8]) -> Access
 
 // An access to a page with this outcome: domain and permission, then the bytes.
 pub fn grant(o: Outcome, r: Registers, purpose: Purpose, size: Size, a: u32, m: &[u8]) -> Access
-    ensures { Tells accessResult (granted o r purpose size a m.now) result }
+    ensures { Tells access_result (granted o r purpose size a m.now) result }
 {
     match o {
         Outcome::Failed(f) => Access::Fails(f),
@@ -105,7 +105,7 @@ pub fn decide(
     a: u32,
     m: &[u8],
 ) -> Access
-    ensures { Tells accessResult (decided o stale r purpose size a m.now) result }
+    ensures { Tells access_result (decided o stale r purpose size a m.now) result }
 {
     let n = memory::bytes(size);
     let rest = a as usize % n;
@@ -120,9 +120,9 @@ pub fn decide(
 
 // What an access comes to.
 pub fn access_at(r: Registers, m: &[u8], t: &[u32], purpose: Purpose, size: Size, a: u32) -> Access
-    ensures { Tells accessResult (accessAt r m.now t.now purpose size a) result }
+    ensures { Tells access_result (access_at r m.now t.now purpose size a) result }
 {
-    let page = a as usize / 4096; // pageSize
+    let page = a as usize / 4096; // page_size
     let o = walk::walk(m, Tables { root: r.root }, page);
     let stale = track::is_stale_page(OLD_WINDOW, t, r.context, page, o);
     decide(o, stale, r, purpose, size, a, m)

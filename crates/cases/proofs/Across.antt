@@ -6,9 +6,9 @@ use mathlib.Core.Bool.{Bool, true, false}
 use mathlib.Core.List.{List, [], ◌∷◌, map}
 use native.Mathlib.Omega.{arith}
 use lib.ListN.{set, replicate}
-use Rattle.model.specs.Limits.{rowSize}
-use Rattle.model.specs.reference.Rules.{fresh, access, translated, touched, stored, aligned, accessSize, may_read, may_write, permits, field_of, ruling, ruled, rightOf, physical, among, outcome, setRegisters, effect, carriedOut, plainStep, scope_of, covers, flushes, Held, heldScope, matches, heldFor, anyClash, load, isFree, put_in, move, moves, orWalk, chipOutcome, flushPlace, chipStep, walk, descriptor, tableWord, globalBy, domainOf, section, bits, value, in_memory, rooted}
-use Rattle.model.specs.reference.Runs.{last, plainRun, chipStart, chipNext, chipRun, Holds}
+use Rattle.model.specs.Limits.{row_size}
+use Rattle.model.specs.reference.Rules.{fresh, access, translated, touched, stored, aligned, access_size, may_read, may_write, permits, field_of, ruling, ruled, right_of, physical, among, outcome, set_registers, effect, carried_out, plain_step, scope_of, covers, flushes, Held, held_scope, matches, held_for, any_clash, load, is_free, put_in, move, moves, or_walk, chip_outcome, flush_place, chip_step, walk, descriptor, table_word, global_by, domain_of, section, bits, value, in_memory, rooted}
+use Rattle.model.specs.reference.Runs.{last, plain_run, chip_start, chip_next, chip_run, Holds}
 use Rattle.model.specs.Invisible.{UsedAcross}
 use Rattle.model.specs.declared.Operation.{Operation}
 use Rattle.model.specs.declared.Kind.TheVariants.{Read, Write, Asid}
@@ -25,11 +25,11 @@ unmapped = record { kind = Write; a = 0x80; b = 4; c = 0 } ∷ record { kind = A
 abbrev page2 : Held
 page2 = record { context = 0; page = 2; entry = record { frame = 2; ap = 1; section = 1; global = 1; xn = 0; domain = 0 } }
 
-pub used-across : UsedAcross
-unfolding last plainRun plainStep carriedOut effect setRegisters access translated touched stored aligned accessSize among may_read may_write permits field_of ruling ruled rightOf physical fresh chipStart
-    chipRun chipNext chipStep chipOutcome orWalk heldFor moves move rowSize isFree anyClash put_in outcome walk descriptor tableWord section globalBy domainOf bits value
-    in_memory heldScope scope_of covers matches flushPlace flushes Holds
-used-across = record {
+pub used_across : UsedAcross
+unfolding last plain_run plain_step carried_out effect set_registers access translated touched stored aligned access_size among may_read may_write permits field_of ruling ruled right_of physical fresh chip_start
+    chip_run chip_next chip_step chip_outcome or_walk held_for moves move row_size is_free any_clash put_in outcome walk descriptor table_word section global_by domain_of bits value
+    in_memory held_scope scope_of covers matches flush_place flushes Holds
+used_across = record {
   image = mapped;
   setting = rooted 0x80;
   before = unmapped;
@@ -45,6 +45,6 @@ used-across = record {
   elsewhere = λ q. omega (arith, q);
   matching = refl;
   unmapped = refl;
-  chipAnswers = refl;
-  plainFaults = refl;
+  chip_answers = refl;
+  plain_faults = refl;
 }

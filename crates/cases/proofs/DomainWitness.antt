@@ -6,24 +6,24 @@ use mathlib.Core.Bool.{true}
 use mathlib.Core.Option.{Option, some}
 use mathlib.Core.List.{List, [], ◌∷◌}
 use lib.ListN.{replicate}
-use Rattle.model.specs.Limits.{rowSize}
+use Rattle.model.specs.Limits.{row_size}
 use Rattle.model.specs.Numbers.{Result, ok, fault, refused, shown}
-use Rattle.model.specs.reference.Rules.{fresh, access, translated, touched, stored, aligned, among, accessSize, may_read, may_write, permits, field_of, ruling, ruled, permissionFault, domainFault, rightOf, physical, outcome, setRegisters, effect, carriedOut, plainStep, scope_of, covers, flushes, heldScope, matches, heldFor, anyClash, load, isFree, put_in, move, moves, orWalk, chipOutcome, flushPlace, chipStep, walk, descriptor, tableWord, globalBy, domainOf, section, bits, value, in_memory, rooted}
-use Rattle.model.specs.reference.Runs.{last, next, checkerRun, is_refused, plainRun, chipStart, chipNext, chipRun}
-use Rattle.model.specs.Invisible.{Session, Accepted, isAccess, alignedAccess, atEnd, plainLast, chipLast, CouldDiffer, checker}
+use Rattle.model.specs.reference.Rules.{fresh, access, translated, touched, stored, aligned, among, access_size, may_read, may_write, permits, field_of, ruling, ruled, permission_fault, domain_fault, right_of, physical, outcome, set_registers, effect, carried_out, plain_step, scope_of, covers, flushes, held_scope, matches, held_for, any_clash, load, is_free, put_in, move, moves, or_walk, chip_outcome, flush_place, chip_step, walk, descriptor, table_word, global_by, domain_of, section, bits, value, in_memory, rooted}
+use Rattle.model.specs.reference.Runs.{last, next, checker_run, is_refused, plain_run, chip_start, chip_next, chip_run}
+use Rattle.model.specs.Invisible.{Session, Accepted, is_access, aligned_access, at_end, plain_last, chip_last, CouldDiffer, checker}
 use Rattle.model.specs.declared.Operation.{Operation}
 use Rattle.model.specs.declared.Kind.TheVariants.{Read, Write, Mode, Domain}
 use Rattle.model.proofs.CaseTools.{next as stepOn}
-use Rattle.cases.proofs.OldEntry.{could-differ}
+use Rattle.cases.proofs.OldEntry.{could_differ}
 use Rattle.cases.proofs.FetchWitness.{image}
 
 -- The low byte of the image's section is 2 in domain 0, and 0x22 in domain 1.
 
-abbrev toDomains : ℕ → Operation
-toDomains a = record { kind = Domain; a = a; b = 0; c = 0 }
+abbrev to_domains : ℕ → Operation
+to_domains a = record { kind = Domain; a = a; b = 0; c = 0 }
 
-abbrev readPage2 : Operation
-readPage2 = record { kind = Read; a = 0x2000; b = 4; c = 0 }
+abbrev read_page2 : Operation
+read_page2 = record { kind = Read; a = 0x2000; b = 4; c = 0 }
 
 -- ── A page whose domain alone changed is one that some TLB may still hold ──
 
@@ -38,58 +38,58 @@ accepted : Accepted checker changed
 unfolding changed is_refused stepOn
 accepted = refl
 
-read-aligned : alignedAccess readPage2 ≡ true
-unfolding alignedAccess isAccess among accessSize aligned
-read-aligned = refl
+read_aligned : aligned_access read_page2 ≡ true
+unfolding aligned_access is_access among access_size aligned
+read_aligned = refl
 
-refused-16 : shown (next checker readPage2 (atEnd checker changed)).answer ≡ refused 16
-unfolding changed redomain checkerRun last stepOn
-refused-16 = refl
+refused_16 : shown (next checker read_page2 (at_end checker changed)).answer ≡ refused 16
+unfolding changed redomain checker_run last stepOn
+refused_16 = refl
 
-pub domain-witness : CouldDiffer checker changed readPage2
-domain-witness = could-differ changed accepted readPage2 read-aligned refused-16
+pub domain_witness : CouldDiffer checker changed read_page2
+domain_witness = could_differ changed accepted read_page2 read_aligned refused_16
 
 -- ── The old entry's domain decides, by the register of the access ──
 
 -- the last answer of a chip that loaded page 2 at first, and of the plain machine, told that nothing was refused
-abbrev chipAnswer : ℕ → List Operation → Option Result
-chipAnswer low os = (chipLast (image low) (rooted 0x80) os 1 (load 0 2 ∷ []) (λ i. [])).answer
+abbrev chip_answer : ℕ → List Operation → Option Result
+chip_answer low os = (chip_last (image low) (rooted 0x80) os 1 (load 0 2 ∷ []) (λ i. [])).answer
 
-abbrev plainAnswer : ℕ → List Operation → Option Result
-plainAnswer low os = (plainLast (image low) (rooted 0x80) os).0
+abbrev plain_answer : ℕ → List Operation → Option Result
+plain_answer low os = (plain_last (image low) (rooted 0x80) os).0
 
 -- the low byte overwritten, the domain register set, page 2 read
 abbrev after : ℕ → ℕ → List Operation
-after low w = record { kind = Write; a = 0x80; b = 1; c = low } ∷ toDomains w ∷ readPage2 ∷ []
+after low w = record { kind = Write; a = 0x80; b = 1; c = low } ∷ to_domains w ∷ read_page2 ∷ []
 
 -- the section turned from domain 0 to domain 1, with one of the two closed: chip and plain machine differ both ways
 pub record OldDomainDecides : Type 0 where
-  pub reads : chipAnswer 2 (after 0x22 0x1) ≡ some (ok 7)
-  pub plainFaults : plainAnswer 2 (after 0x22 0x1) ≡ some (fault 0x9)
-  pub faults : chipAnswer 2 (after 0x22 0x4) ≡ some (fault 0x9)
-  pub plainReads : plainAnswer 2 (after 0x22 0x4) ≡ some (ok 7)
+  pub reads : chip_answer 2 (after 0x22 0x1) ≡ some (ok 7)
+  pub plain_faults : plain_answer 2 (after 0x22 0x1) ≡ some (fault 0x9)
+  pub faults : chip_answer 2 (after 0x22 0x4) ≡ some (fault 0x9)
+  pub plain_reads : plain_answer 2 (after 0x22 0x4) ≡ some (ok 7)
 
-pub old-domain-decides : OldDomainDecides
-unfolding last plainRun plainStep carriedOut effect setRegisters access translated touched stored aligned accessSize among may_read may_write permits
-    field_of ruling ruled permissionFault domainFault rightOf physical fresh chipStart chipRun chipNext chipStep chipOutcome orWalk heldFor moves move rowSize isFree
-    anyClash put_in outcome walk descriptor tableWord section globalBy domainOf bits value in_memory heldScope scope_of covers matches flushPlace flushes
-old-domain-decides = record { reads = refl; plainFaults = refl; faults = refl; plainReads = refl }
+pub old_domain_decides : OldDomainDecides
+unfolding last plain_run plain_step carried_out effect set_registers access translated touched stored aligned access_size among may_read may_write permits
+    field_of ruling ruled permission_fault domain_fault right_of physical fresh chip_start chip_run chip_next chip_step chip_outcome or_walk held_for moves move row_size is_free
+    any_clash put_in outcome walk descriptor table_word section global_by domain_of bits value in_memory held_scope scope_of covers matches flush_place flushes
+old_domain_decides = record { reads = refl; plain_faults = refl; faults = refl; plain_reads = refl }
 
 -- the domain register set, then page 2 read in user mode, which AP 1 does not permit
-abbrev asUser : ℕ → List Operation
-asUser w = toDomains w ∷ record { kind = Mode; a = 1; b = 0; c = 0 } ∷ readPage2 ∷ []
+abbrev as_user : ℕ → List Operation
+as_user w = to_domains w ∷ record { kind = Mode; a = 1; b = 0; c = 0 } ∷ read_page2 ∷ []
 
 -- a chip that loaded page 2 while each field was 1 goes by the register of the access: closed, as at the load, and with permissions skipped
 pub record RegisterOfNow : Type 0 where
-  pub closed : chipAnswer 2 (asUser 0) ≡ some (fault 0x9)
-  pub plainClosed : plainAnswer 2 (asUser 0) ≡ some (fault 0x9)
-  pub client : chipAnswer 2 (asUser 0x55555555) ≡ some (fault 0xd)
-  pub plainClient : plainAnswer 2 (asUser 0x55555555) ≡ some (fault 0xd)
-  pub manager : chipAnswer 2 (asUser 3) ≡ some (ok 7)
-  pub plainManager : plainAnswer 2 (asUser 3) ≡ some (ok 7)
+  pub closed : chip_answer 2 (as_user 0) ≡ some (fault 0x9)
+  pub plain_closed : plain_answer 2 (as_user 0) ≡ some (fault 0x9)
+  pub client : chip_answer 2 (as_user 0x55555555) ≡ some (fault 0xd)
+  pub plain_client : plain_answer 2 (as_user 0x55555555) ≡ some (fault 0xd)
+  pub manager : chip_answer 2 (as_user 3) ≡ some (ok 7)
+  pub plain_manager : plain_answer 2 (as_user 3) ≡ some (ok 7)
 
-pub register-of-now : RegisterOfNow
-unfolding last plainRun plainStep carriedOut effect setRegisters access translated touched stored aligned accessSize among may_read may_write permits
-    field_of ruling ruled permissionFault domainFault rightOf physical fresh chipStart chipRun chipNext chipStep chipOutcome orWalk heldFor moves move rowSize isFree
-    anyClash put_in outcome walk descriptor tableWord section globalBy domainOf bits value in_memory heldScope scope_of covers matches flushPlace flushes
-register-of-now = record { closed = refl; plainClosed = refl; client = refl; plainClient = refl; manager = refl; plainManager = refl }
+pub register_of_now : RegisterOfNow
+unfolding last plain_run plain_step carried_out effect set_registers access translated touched stored aligned access_size among may_read may_write permits
+    field_of ruling ruled permission_fault domain_fault right_of physical fresh chip_start chip_run chip_next chip_step chip_outcome or_walk held_for moves move row_size is_free
+    any_clash put_in outcome walk descriptor table_word section global_by domain_of bits value in_memory held_scope scope_of covers matches flush_place flushes
+register_of_now = record { closed = refl; plain_closed = refl; client = refl; plain_client = refl; manager = refl; plain_manager = refl }

@@ -5,7 +5,7 @@ use lib.ListN.{replicate}
 use Rattle.model.specs.reference.Rules.{rooted}
 use Rattle.model.specs.step.Machine.{After, started}
 use Rattle.model.specs.declared.Kind.TheVariants.{Read, Write, Asid, Addr, AddrCtx, Fetch}
-use Rattle.model.proofs.CaseTools.{put, zeros, next, faultCode, refusalCode, answered, trackAt}
+use Rattle.model.proofs.CaseTools.{put, zeros, next, fault_code, refusal_code, answered, track_at}
 use Rattle.cases.proofs.GlobalCases.{given}
 
 -- The code image has two maps, all of them at frame 0 but where another is named, with nG set but where it is not. 0x44332211 stands at
@@ -15,8 +15,8 @@ use Rattle.cases.proofs.GlobalCases.{given}
 -- AP 3, XN, nG clear. By large pages: page 0x10 AP 3; page 0x11 AP 3, XN, frame 1. By sections: from page 0x100 AP 3; from page 0x200
 -- AP 3, XN. By a table at 0x800: page 0x3FF AP 3.
 -- Under root 0x100, by sections: from page 0 AP 1; from page 0x100 AP 0; from page 0x200 at 0x300000, AP 3; from page 0x300 the same with XN.
-abbrev codeImage : List ℕ
-codeImage =
+abbrev code_image : List ℕ
+code_image =
     put 0x80 0x401 (put 0x84 0x20C02 (put 0x88 0x20C12 (put 0x8C 0x801
     (put 0x400 0x812 (put 0x404 0x832 (put 0x408 0x833 (put 0x40C 0x812 (put 0x410 0x802 (put 0x414 0xA22 (put 0x418 0xA23
     (put 0x41C 0x822 (put 0x420 0x5832 (put 0x424 0x5833 (put 0x428 0xA12 (put 0x430 0x33 (put 0x440 0x831 (put 0x444 0x8831 (put 0xBFC 0x832
@@ -38,10 +38,10 @@ abbrev both : ℕ → After → List (ℕ × ℕ)
 both p x = (fetching (p * 4096 + 0x10) x, 0x44332211) ∷ (reading (p * 4096 + 0x10) x, 0x44332211) ∷ []
 
 abbrev neither : ℕ → ℕ → After → List (ℕ × ℕ)
-neither n p x = (fetching (p * 4096 + 0x10) x, faultCode n) ∷ (reading (p * 4096 + 0x10) x, faultCode n) ∷ []
+neither n p x = (fetching (p * 4096 + 0x10) x, fault_code n) ∷ (reading (p * 4096 + 0x10) x, fault_code n) ∷ []
 
 abbrev read_only : ℕ → ℕ → After → List (ℕ × ℕ)
-read_only n p x = (fetching (p * 4096 + 0x10) x, faultCode n) ∷ (reading (p * 4096 + 0x10) x, 0x44332211) ∷ []
+read_only n p x = (fetching (p * 4096 + 0x10) x, fault_code n) ∷ (reading (p * 4096 + 0x10) x, 0x44332211) ∷ []
 
 -- What may be fetched, in kernel mode and in user mode.
 allowed : List ℕ → List (ℕ × ℕ)
@@ -56,7 +56,7 @@ allowed image =
     both 1 kernel ++ both 1 user
     ++ read_only 0xF 2 kernel ++ read_only 0xF 2 user
     ++ both 0x10 kernel ++ both 0x10 user
-    ++ (fetching 0x11010 kernel, faultCode 0xF) ∷ (fetching 0x11010 user, faultCode 0xF) ∷ (reading 0x11010 kernel, faultCode 0x8)
+    ++ (fetching 0x11010 kernel, fault_code 0xF) ∷ (fetching 0x11010 user, fault_code 0xF) ∷ (reading 0x11010 kernel, fault_code 0x8)
     ∷ both 0x100 kernel ++ both 0x100 user
     ++ read_only 0xD 0x200 kernel ++ read_only 0xD 0x200 user
     ++ (writing 0x2010 kernel, 0) ∷ (writing 0x2010 user, 0) ∷ (writing 0x200010 user, 0)
@@ -69,13 +69,13 @@ allowed image =
     ++ both 5 kernel ++ both 5 user
     ++ both 7 kernel ++ both 7 user
     ++ read_only 0xF 6 kernel ++ read_only 0xF 6 user
-    ++ (writing 0x5010 kernel, faultCode 0xF)
+    ++ (writing 0x5010 kernel, fault_code 0xF)
     -- sections: AP 1 and AP 0
     ∷ both 0 kernel2 ++ neither 0xD 0 user2
     ++ neither 0xD 0x100 kernel2 ++ neither 0xD 0x100 user2
     -- permission before bytes not in memory, by XN too
-    ++ (fetching 0x8010 kernel, faultCode 0x8) ∷ (fetching 0x9010 kernel, faultCode 0xF) ∷ (reading 0x9010 kernel, faultCode 0x8)
-    ∷ (fetching 0x200010 kernel2, faultCode 0x8) ∷ (fetching 0x300010 kernel2, faultCode 0xD) ∷ (reading 0x300010 kernel2, faultCode 0x8)
+    ++ (fetching 0x8010 kernel, fault_code 0x8) ∷ (fetching 0x9010 kernel, fault_code 0xF) ∷ (reading 0x9010 kernel, fault_code 0x8)
+    ∷ (fetching 0x200010 kernel2, fault_code 0x8) ∷ (fetching 0x300010 kernel2, fault_code 0xD) ∷ (reading 0x300010 kernel2, fault_code 0x8)
     ∷ []
 
 -- Which bytes are fetched, and which addresses.
@@ -93,56 +93,56 @@ fetched image =
     -- a fetch changes no register
     ∷ (once.registers.root, 0x80) ∷ (once.registers.context, 1) ∷ (once.registers.mode, 0)
     -- an address that is no multiple of 4, on a page that may be fetched and on one that may not
-    ∷ (fetching 0x1011 kernel, faultCode 1) ∷ (fetching 0x1012 kernel, faultCode 1) ∷ (fetching 0x1013 user, faultCode 1)
-    ∷ (fetching 0x2012 kernel, faultCode 1) ∷ (fetching 0xB002 kernel, faultCode 1)
+    ∷ (fetching 0x1011 kernel, fault_code 1) ∷ (fetching 0x1012 kernel, fault_code 1) ∷ (fetching 0x1013 user, fault_code 1)
+    ∷ (fetching 0x2012 kernel, fault_code 1) ∷ (fetching 0xB002 kernel, fault_code 1)
     -- the last word of the window, at the last word of memory; behind the window, also where the address is no multiple of 4
-    ∷ (fetching 0x3FFFFC kernel, 0xA5A6A7A8) ∷ (fetching 0x3FFFFC user, 0xA5A6A7A8) ∷ (fetching 0x3FFFFD kernel, faultCode 1)
-    ∷ (fetching 0x400000 kernel, refusalCode 8) ∷ (fetching 0x400001 kernel, refusalCode 8) ∷ (fetching 0x400000 user, refusalCode 8)
-    ∷ (fetching 0xFFFFFFFC kernel, refusalCode 8)
+    ∷ (fetching 0x3FFFFC kernel, 0xA5A6A7A8) ∷ (fetching 0x3FFFFC user, 0xA5A6A7A8) ∷ (fetching 0x3FFFFD kernel, fault_code 1)
+    ∷ (fetching 0x400000 kernel, refusal_code 8) ∷ (fetching 0x400001 kernel, refusal_code 8) ∷ (fetching 0x400000 user, refusal_code 8)
+    ∷ (fetching 0xFFFFFFFC kernel, refusal_code 8)
     ∷ []
 
 -- A page whose XN bit alone changes by a store of one byte at `at`: its words are `before` and `after` it, and this fault stops a fetch while
 -- XN is set. It is stale, for reads and writes too, until a flush; in a context whose set is empty it is not.
-xnChanges : ℕ → ℕ → ℕ → ℕ → ℕ → ℕ → ℕ → After → List (ℕ × ℕ)
+xn_changes : ℕ → ℕ → ℕ → ℕ → ℕ → ℕ → ℕ → After → List (ℕ × ℕ)
 unfolding next
-xnChanges p at clear set n before after start =
+xn_changes p at clear set n before after start =
     let address = p * 4096 + 0x10 in
     let changed = next Write at 1 set start in
     let back = next Write at 1 clear changed in
     let flushed = next Addr address 0 0 changed in
     let freed = next Addr address 0 0 back in
     let other = next Asid 1 0 0 changed in
-    (trackAt start.track 0 p, before) ∷ (fetching address start, 0x44332211)
-    ∷ (trackAt changed.track 0 p, 1)
-    ∷ (fetching address changed, refusalCode 16) ∷ (reading address changed, refusalCode 16) ∷ (writing address changed, refusalCode 16)
+    (track_at start.track 0 p, before) ∷ (fetching address start, 0x44332211)
+    ∷ (track_at changed.track 0 p, 1)
+    ∷ (fetching address changed, refusal_code 16) ∷ (reading address changed, refusal_code 16) ∷ (writing address changed, refusal_code 16)
     -- an unaligned access is fault 1 all the same
-    ∷ (fetching (address + 2) changed, faultCode 1) ∷ (reading (address + 2) changed, faultCode 1)
+    ∷ (fetching (address + 2) changed, fault_code 1) ∷ (reading (address + 2) changed, fault_code 1)
     -- changed back without a flush
-    ∷ (trackAt back.track 0 p, 1) ∷ (fetching address back, refusalCode 16) ∷ (reading address back, refusalCode 16)
+    ∷ (track_at back.track 0 p, 1) ∷ (fetching address back, refusal_code 16) ∷ (reading address back, refusal_code 16)
     -- flushed
-    ∷ (trackAt flushed.track 0 p, after) ∷ (fetching address flushed, faultCode n) ∷ (reading address flushed, 0x44332211)
-    ∷ (trackAt freed.track 0 p, before) ∷ (fetching address freed, 0x44332211)
-    ∷ (trackAt other.track 1 p, after) ∷ (fetching address other, faultCode n) ∷ (reading address other, 0x44332211)
+    ∷ (track_at flushed.track 0 p, after) ∷ (fetching address flushed, fault_code n) ∷ (reading address flushed, 0x44332211)
+    ∷ (track_at freed.track 0 p, before) ∷ (fetching address freed, 0x44332211)
+    ∷ (track_at other.track 1 p, after) ∷ (fetching address other, fault_code n) ∷ (reading address other, 0x44332211)
     ∷ []
 
 -- By a small page's bit 0, a large page's bit 15 and a section's bit 4; and a page from XN set to clear.
 changing : List ℕ → List (ℕ × ℕ)
-unfolding next xnChanges
+unfolding next xn_changes
 changing image =
     let start = started image (replicate 3072 7) (rooted 0x80) in
     let cleared = next Write 0x408 1 0x32 start in
     let global = next Write 0x430 1 0x32 start in
-    xnChanges 1 0x404 0x32 0x33 0xF 0x602 0x642 start
-    ++ xnChanges 0x10 0x441 8 0x88 0xF 0x602 0x642 start
-    ++ xnChanges 0x100 0x84 2 0x12 0xD 0x702 0x742 start
-    ++ (trackAt start.track 0 2, 0x642) ∷ (trackAt cleared.track 0 2, 1) ∷ (reading 0x2010 cleared, refusalCode 16)
-    ∷ (trackAt (next Addr 0x2000 0 0 cleared).track 0 2, 0x602) ∷ (fetching 0x2010 (next Addr 0x2000 0 0 cleared), 0x44332211)
+    xn_changes 1 0x404 0x32 0x33 0xF 0x602 0x642 start
+    ++ xn_changes 0x10 0x441 8 0x88 0xF 0x602 0x642 start
+    ++ xn_changes 0x100 0x84 2 0x12 0xD 0x702 0x742 start
+    ++ (track_at start.track 0 2, 0x642) ∷ (track_at cleared.track 0 2, 1) ∷ (reading 0x2010 cleared, refusal_code 16)
+    ∷ (track_at (next Addr 0x2000 0 0 cleared).track 0 2, 0x602) ∷ (fetching 0x2010 (next Addr 0x2000 0 0 cleared), 0x44332211)
     -- a global page: its word is in the global row, and it is stale in every context
-    ∷ (trackAt start.track 2 0xC, 0x6C2) ∷ (trackAt global.track 2 0xC, 1)
-    ∷ (fetching 0xC010 global, refusalCode 16) ∷ (reading 0xC010 (next Asid 1 0 0 global), refusalCode 16)
-    ∷ (trackAt (next AddrCtx 0xC000 1 0 global).track 2 0xC, 0x682) ∷ (fetching 0xC010 (next AddrCtx 0xC000 1 0 global), 0x44332211)
+    ∷ (track_at start.track 2 0xC, 0x6C2) ∷ (track_at global.track 2 0xC, 1)
+    ∷ (fetching 0xC010 global, refusal_code 16) ∷ (reading 0xC010 (next Asid 1 0 0 global), refusal_code 16)
+    ∷ (track_at (next AddrCtx 0xC000 1 0 global).track 2 0xC, 0x682) ∷ (fetching 0xC010 (next AddrCtx 0xC000 1 0 global), 0x44332211)
     ∷ []
 
 unfoldable pub fetches : List (ℕ × ℕ)
 unfolding next allowed fetched changing
-fetches = let image = codeImage in allowed image ++ fetched image ++ changing image
+fetches = let image = code_image in allowed image ++ fetched image ++ changing image

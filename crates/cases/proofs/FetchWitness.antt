@@ -7,77 +7,77 @@ use mathlib.Core.Bool.{true, false, cond}
 use mathlib.Core.Option.{Option, some}
 use mathlib.Core.List.{List, [], ◌∷◌}
 use lib.ListN.{length, set, replicate}
-use Rattle.model.specs.Limits.{rowSize}
+use Rattle.model.specs.Limits.{row_size}
 use Rattle.model.specs.Numbers.{Result, ok, fault, refused, shown}
-use Rattle.model.specs.reference.Rules.{fresh, access, translated, touched, stored, aligned, among, accessSize, may_read, may_write, permits, field_of, ruling, ruled, permissionFault, rightOf, physical, outcome, setRegisters, effect, carriedOut, plainStep, scope_of, covers, flushes, heldScope, matches, heldFor, anyClash, load, isFree, put_in, move, moves, orWalk, chipOutcome, flushPlace, chipStep, walk, descriptor, tableWord, pageWord, globalBy, domainOf, section, smallPage, bits, value, in_memory, rooted}
-use Rattle.model.specs.reference.Runs.{last, Checker, next, checkerRun, is_refused, told, plainRun, chipStart, chipNext, chipRun, Holds}
+use Rattle.model.specs.reference.Rules.{fresh, access, translated, touched, stored, aligned, among, access_size, may_read, may_write, permits, field_of, ruling, ruled, permission_fault, right_of, physical, outcome, set_registers, effect, carried_out, plain_step, scope_of, covers, flushes, held_scope, matches, held_for, any_clash, load, is_free, put_in, move, moves, or_walk, chip_outcome, flush_place, chip_step, walk, descriptor, table_word, page_word, global_by, domain_of, section, small_page, bits, value, in_memory, rooted}
+use Rattle.model.specs.reference.Runs.{last, Checker, next, checker_run, is_refused, told, plain_run, chip_start, chip_next, chip_run, Holds}
 use Rattle.model.specs.step.Machine.{started, stepped}
-use Rattle.model.specs.Invisible.{Accepted, isAccess, alignedAccess, atEnd, plainLast, chipLast, CouldDiffer, checker}
+use Rattle.model.specs.Invisible.{Accepted, is_access, aligned_access, at_end, plain_last, chip_last, CouldDiffer, checker}
 use Rattle.model.specs.Wrong.{StaleAlwaysThen}
 use Rattle.model.specs.declared.Operation.{Operation}
 use Rattle.model.specs.declared.Kind.TheVariants.{Write, Fetch}
 use Rattle.model.proofs.CaseTools.{next as stepOn}
 use Rattle.model.proofs.Chips.{held}
-use Rattle.cases.proofs.OldEntry.{could-differ, failed-found, fault-refused, only-old}
+use Rattle.cases.proofs.OldEntry.{could_differ, failed_found, fault_refused, only_old}
 use Rattle.cases.proofs.Witness.{unmap, old, case, accepted, throughout}
 
 -- ── A fetch of a page that some TLB may still hold ──
 
 -- in a list its fields b and c are 0
-unfoldable pub fetchBack : Operation
-fetchBack = record { kind = Fetch; a = 0x1000; b = 0; c = 0 }
+unfoldable pub fetch_back : Operation
+fetch_back = record { kind = Fetch; a = 0x1000; b = 0; c = 0 }
 
 -- it is an aligned access
-fetch_aligned : alignedAccess fetchBack ≡ true
-unfolding alignedAccess isAccess among accessSize aligned fetchBack
+fetch_aligned : aligned_access fetch_back ≡ true
+unfolding aligned_access is_access among access_size aligned fetch_back
 fetch_aligned = refl
 
 -- it is refused as stale
-fetch-refused-16 : shown (next checker fetchBack (atEnd checker case)).answer ≡ refused 16
-unfolding case unmap fetchBack checkerRun last stepOn
-fetch-refused-16 = refl
+fetch_refused_16 : shown (next checker fetch_back (at_end checker case)).answer ≡ refused 16
+unfolding case unmap fetch_back checker_run last stepOn
+fetch_refused_16 = refl
 
 -- so some TLB could hold another entry
-pub fetch-witness : CouldDiffer checker case fetchBack
-fetch-witness = could-differ case accepted fetchBack fetch_aligned fetch-refused-16
+pub fetch_witness : CouldDiffer checker case fetch_back
+fetch_witness = could_differ case accepted fetch_back fetch_aligned fetch_refused_16
 
 -- and that is the old one, loaded in context 0
-pub fetch-holds-old : (y : CouldDiffer checker case fetchBack) → y.held ≡ held 0 1 old
-fetch-holds-old y = only-old 0 1 old case accepted fetchBack (unfold fetchBack in refl) (unfold case in throughout) y
+pub fetch_holds_old : (y : CouldDiffer checker case fetch_back) → y.held ≡ held 0 1 old
+fetch_holds_old y = only_old 0 1 old case accepted fetch_back (unfold fetch_back in refl) (unfold case in throughout) y
 
 -- ── A checker that asks of no fetch whether its page is stale: it carries each out as on an empty track ──
 
-pub blindFetch : Checker
-blindFetch = record { start = started; step = λ o g i t. cond (among o.kind (Fetch ∷ [])) (stepped o g i (replicate (length t) 0)) (stepped o g i t) }
+pub blind_fetch : Checker
+blind_fetch = record { start = started; step = λ o g i t. cond (among o.kind (Fetch ∷ [])) (stepped o g i (replicate (length t) 0)) (stepped o g i t) }
 
-blind-accepted : Accepted blindFetch case
-unfolding blindFetch case is_refused stepOn
-blind-accepted = refl
+blind_accepted : Accepted blind_fetch case
+unfolding blind_fetch case is_refused stepOn
+blind_accepted = refl
 
 -- the fetch faults, as the tables no longer map the page
-blind-faults : shown (next blindFetch fetchBack (atEnd blindFetch case)).answer ≡ fault 0x7
-unfolding blindFetch case unmap fetchBack among checkerRun last stepOn
-blind-faults = refl
+blind_faults : shown (next blind_fetch fetch_back (at_end blind_fetch case)).answer ≡ fault 0x7
+unfolding blind_fetch case unmap fetch_back among checker_run last stepOn
+blind_faults = refl
 
 -- a chip of one place that loaded the page before the store holds its old entry
-blind-differs : CouldDiffer blindFetch case fetchBack
-unfolding blindFetch case unmap fetchBack old told is_refused stepOn Holds last plainRun plainStep carriedOut effect access translated touched stored aligned
-    accessSize among may_read may_write permits field_of ruling ruled rightOf physical fresh chipStart chipRun chipNext chipStep chipOutcome orWalk heldFor moves move rowSize isFree anyClash
-    put_in outcome walk descriptor tableWord pageWord smallPage globalBy domainOf bits value in_memory heldScope scope_of covers matches flushPlace flushes
-blind-differs = record {
+blind_differs : CouldDiffer blind_fetch case fetch_back
+unfolding blind_fetch case unmap fetch_back old told is_refused stepOn Holds last plain_run plain_step carried_out effect access translated touched stored aligned
+    access_size among may_read may_write permits field_of ruling ruled right_of physical fresh chip_start chip_run chip_next chip_step chip_outcome or_walk held_for moves move row_size is_free any_clash
+    put_in outcome walk descriptor table_word page_word small_page global_by domain_of bits value in_memory held_scope scope_of covers matches flush_place flushes
+blind_differs = record {
   places = 0;
   first = load 0 1 ∷ [];
   script = λ i. [];
   held = held 0 1 old;
   holds = inl refl;
   matching = refl;
-  other = λ q. failed-found 0x7 old q;
+  other = λ q. failed_found 0x7 old q;
 }
 
-pub blind-fetch-refuted : StaleAlwaysThen blindFetch → ⊥
-blind-fetch-refuted always =
-    fault-refused 0x7 16
-    (sym blind-faults ∙ always case blind-accepted fetchBack fetch_aligned (λ r q. absurd (fault-refused 0x7 r (sym blind-faults ∙ q))) blind-differs)
+pub blind_fetch_refuted : StaleAlwaysThen blind_fetch → ⊥
+blind_fetch_refuted always =
+    fault_refused 0x7 16
+    (sym blind_faults ∙ always case blind_accepted fetch_back fetch_aligned (λ r q. absurd (fault_refused 0x7 r (sym blind_faults ∙ q))) blind_differs)
 
 -- ── The old entry decides what is fetched ──
 
@@ -87,25 +87,25 @@ abbrev pub image : ℕ → List ℕ
 image low = set (set (set (set (replicate 12288 0) 0x80 low) 0x81 4) 0x82 2) 0x2000 7
 
 -- the low byte is overwritten, then page 2 is fetched from
-abbrev fetchAfter : ℕ → List Operation
-fetchAfter low = record { kind = Write; a = 0x80; b = 1; c = low } ∷ record { kind = Fetch; a = 0x2000; b = 0; c = 0 } ∷ []
+abbrev fetch_after : ℕ → List Operation
+fetch_after low = record { kind = Write; a = 0x80; b = 1; c = low } ∷ record { kind = Fetch; a = 0x2000; b = 0; c = 0 } ∷ []
 
 -- the last answer of a chip that loaded page 2 at first, and of the plain machine, told that nothing was refused
-abbrev chipAnswer : ℕ → ℕ → Option Result
-chipAnswer before after = (chipLast (image before) (rooted 0x80) (fetchAfter after) 1 (load 0 2 ∷ []) (λ i. [])).answer
+abbrev chip_answer : ℕ → ℕ → Option Result
+chip_answer before after = (chip_last (image before) (rooted 0x80) (fetch_after after) 1 (load 0 2 ∷ []) (λ i. [])).answer
 
-abbrev plainAnswer : ℕ → ℕ → Option Result
-plainAnswer before after = (plainLast (image before) (rooted 0x80) (fetchAfter after)).0
+abbrev plain_answer : ℕ → ℕ → Option Result
+plain_answer before after = (plain_last (image before) (rooted 0x80) (fetch_after after)).0
 
 -- XN set by the store: the chip fetches through its old entry, and the plain machine faults; XN cleared: the other way round
 pub record OldXnDecides : Type 0 where
-  pub fetches : chipAnswer 2 0x12 ≡ some (ok 7)
-  pub plainFaults : plainAnswer 2 0x12 ≡ some (fault 0xd)
-  pub faults : chipAnswer 0x12 2 ≡ some (fault 0xd)
-  pub plainFetches : plainAnswer 0x12 2 ≡ some (ok 7)
+  pub fetches : chip_answer 2 0x12 ≡ some (ok 7)
+  pub plain_faults : plain_answer 2 0x12 ≡ some (fault 0xd)
+  pub faults : chip_answer 0x12 2 ≡ some (fault 0xd)
+  pub plain_fetches : plain_answer 0x12 2 ≡ some (ok 7)
 
-pub old-xn-decides : OldXnDecides
-unfolding last plainRun plainStep carriedOut effect setRegisters access translated touched stored aligned accessSize among may_read may_write permits field_of ruling ruled
-    permissionFault rightOf physical fresh chipStart chipRun chipNext chipStep chipOutcome orWalk heldFor moves move rowSize isFree anyClash put_in outcome walk
-    descriptor tableWord section globalBy domainOf bits value in_memory heldScope scope_of covers matches flushPlace flushes
-old-xn-decides = record { fetches = refl; plainFaults = refl; faults = refl; plainFetches = refl }
+pub old_xn_decides : OldXnDecides
+unfolding last plain_run plain_step carried_out effect set_registers access translated touched stored aligned access_size among may_read may_write permits field_of ruling ruled
+    permission_fault right_of physical fresh chip_start chip_run chip_next chip_step chip_outcome or_walk held_for moves move row_size is_free any_clash put_in outcome walk
+    descriptor table_word section global_by domain_of bits value in_memory held_scope scope_of covers matches flush_place flushes
+old_xn_decides = record { fetches = refl; plain_faults = refl; faults = refl; plain_fetches = refl }

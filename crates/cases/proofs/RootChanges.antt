@@ -6,8 +6,8 @@ use mathlib.Core.List.{List}
 use borrow.Author.Tests.{eqb-true}
 use Rattle.model.specs.Demands.{Call, after}
 use Rattle.model.specs.RootChanges.{RootChanges}
-use Rattle.model.specs.step.Checks.{rootMayChange, checks, firstFailing}
-use Rattle.model.specs.step.Machine.{size_of, accessAt, read_step, writeStep, fetchStep, operate, afterChecks, stepped}
+use Rattle.model.specs.step.Checks.{root_may_change, checks, first_failing}
+use Rattle.model.specs.step.Machine.{size_of, access_at, read_step, write_step, fetch_step, operate, after_checks, stepped}
 use Rattle.model.specs.declared.Registers.{Registers}
 use Rattle.model.specs.declared.Operation.{Operation}
 use Rattle.model.specs.declared.Kind.{Kind}
@@ -16,39 +16,39 @@ use Rattle.model.specs.declared.Size.TheVariants.{Four}
 use Rattle.model.specs.declared.Purpose.TheVariants.{ToRead, ToWrite, ToFetch}
 use Rattle.model.specs.declared.Check.{Check}
 use Rattle.model.specs.declared.Check.TheVariants.{Pass, Refuse}
-use Rattle.model.proofs.Calls.{Hold, passed, checksOf, read-context, write-context}
+use Rattle.model.proofs.Calls.{Hold, passed, checks_of, read_context, write_context}
 
-rootOf : Registers → ℕ
-rootOf r = r.root
+root_of : Registers → ℕ
+root_of r = r.root
 
 -- no operation but `root` sets the root, and that one passes its check under context 0 alone
-root-left : (k : Kind) (o : Operation) (r : Registers) (m t : List ℕ) → rootMayChange k r.context ≡ true → (r.context ≡ 0 → ⊥) →
+root_left : (k : Kind) (o : Operation) (r : Registers) (m t : List ℕ) → root_may_change k r.context ≡ true → (r.context ≡ 0 → ⊥) →
     (operate k o r m t).registers.root ≡ r.root
-unfolding operate rootMayChange read_step writeStep fetchStep rootOf
-root-left Read o r m t p n = ap rootOf (read-context (accessAt r m t ToRead (size_of o.b) o.a) (size_of o.b) r m t)
-root-left Write o r m t p n = ap rootOf (write-context (accessAt r m t ToWrite (size_of o.b) o.a) (size_of o.b) o.c r m t)
-root-left Root o r m t p n = absurd (n (eqb-true r.context 0 p))
-root-left Asid o r m t p n = refl
-root-left Mode o r m t p n = refl
-root-left All o r m t p n = refl
-root-left Addr o r m t p n = refl
-root-left Ctx o r m t p n = refl
-root-left AddrCtx o r m t p n = refl
-root-left Fetch o r m t p n = ap rootOf (read-context (accessAt r m t ToFetch Four o.a) Four r m t)
-root-left Domain o r m t p n = refl
+unfolding operate root_may_change read_step write_step fetch_step root_of
+root_left Read o r m t p n = ap root_of (read_context (access_at r m t ToRead (size_of o.b) o.a) (size_of o.b) r m t)
+root_left Write o r m t p n = ap root_of (write_context (access_at r m t ToWrite (size_of o.b) o.a) (size_of o.b) o.c r m t)
+root_left Root o r m t p n = absurd (n (eqb-true r.context 0 p))
+root_left Asid o r m t p n = refl
+root_left Mode o r m t p n = refl
+root_left All o r m t p n = refl
+root_left Addr o r m t p n = refl
+root_left Ctx o r m t p n = refl
+root_left AddrCtx o r m t p n = refl
+root_left Fetch o r m t p n = ap root_of (read_context (access_at r m t ToFetch Four o.a) Four r m t)
+root_left Domain o r m t p n = refl
 
 -- an operation that has passed the checks has passed the one on root changes
-change-passed : (x : Call) → firstFailing (checksOf x) ≡ Pass → rootMayChange x.operation.kind x.registers.context ≡ true
+change_passed : (x : Call) → first_failing (checks_of x) ≡ Pass → root_may_change x.operation.kind x.registers.context ≡ true
 unfolding Hold checks
-change-passed x p = (passed (checksOf x) p).1.1.1.1.1.1.1.1.1.1.0
+change_passed x p = (passed (checks_of x) p).1.1.1.1.1.1.1.1.1.1.0
 
 kept : (x : Call) → (x.registers.context ≡ 0 → ⊥) → (after x).registers.root ≡ x.registers.root
 unfolding stepped
-kept x n = go (firstFailing (checksOf x)) refl
+kept x n = go (first_failing (checks_of x)) refl
   where
-    go : (y : Check) → firstFailing (checksOf x) ≡ y → (afterChecks y x.operation x.registers x.memory x.track).registers.root ≡ x.registers.root
+    go : (y : Check) → first_failing (checks_of x) ≡ y → (after_checks y x.operation x.registers x.memory x.track).registers.root ≡ x.registers.root
     go (Refuse r) e = refl
-    go Pass e = root-left x.operation.kind x.operation x.registers x.memory x.track (change-passed x e) n
+    go Pass e = root_left x.operation.kind x.operation x.registers x.memory x.track (change_passed x e) n
 
-pub root-changes : RootChanges
-root-changes = record { kept = kept }
+pub root_changes : RootChanges
+root_changes = record { kept = kept }

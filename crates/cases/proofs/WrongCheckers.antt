@@ -7,13 +7,13 @@ use mathlib.Core.Option.{Option, none, some}
 use mathlib.Core.List.{List, [], ◌∷◌, ◌++◌, map}
 use native.Mathlib.Omega.{arith}
 use lib.ListN.{length, get_or, replicate, length-replicate}
-use Rattle.model.specs.Limits.{pageSize, oldWindow, rowSize}
+use Rattle.model.specs.Limits.{page_size, old_window, row_size}
 use Rattle.model.specs.Numbers.{Result, ok, fault, refused, shown}
-use Rattle.model.specs.reference.Rules.{Translation, State, fresh, outcome, carriedOut, plainStep, walk, descriptor, tableWord, section, bits, value, in_memory, effect, access, translated, touched, aligned, accessSize, may_read, may_write, permits, field_of, ruling, ruled, rightOf, physical, among, accesses, trackWord, stale, kept, differs, conditions, Given, refuses16, setRegisters, chipOutcome, orWalk, chipStep, moves, move, isFree, heldFor, put_in, flushPlace, flushes, anyClash, matches, covers, heldScope, scope_of, globalBy, domainOf, Scope, own, global, rooted}
-use Rattle.model.specs.reference.Runs.{Checker, next, checkerRun, is_refused, seen, told, plainRun, chipStart, chipNext, chipRun, chipSeen}
+use Rattle.model.specs.reference.Rules.{Translation, State, fresh, outcome, carried_out, plain_step, walk, descriptor, table_word, section, bits, value, in_memory, effect, access, translated, touched, aligned, access_size, may_read, may_write, permits, field_of, ruling, ruled, right_of, physical, among, accesses, track_word, stale, kept, differs, conditions, Given, refuses16, set_registers, chip_outcome, or_walk, chip_step, moves, move, is_free, held_for, put_in, flush_place, flushes, any_clash, matches, covers, held_scope, scope_of, global_by, domain_of, Scope, own, global, rooted}
+use Rattle.model.specs.reference.Runs.{Checker, next, checker_run, is_refused, seen, told, plain_run, chip_start, chip_next, chip_run, chip_seen}
 use Rattle.model.specs.step.Checks.{checks}
-use Rattle.model.specs.step.Machine.{After, turnedBack, started, stepped}
-use Rattle.model.specs.Invisible.{Session, Accepted, checkerRunOf, toldOf, plainRunOf, isAccess, alignedAccess, Same, checker}
+use Rattle.model.specs.step.Machine.{After, turned_back, started, stepped}
+use Rattle.model.specs.Invisible.{Session, Accepted, checker_run_of, told_of, plain_run_of, is_access, aligned_access, Same, checker}
 use Rattle.model.specs.Wrong.{SameBegins, SamePlain, SameChip, StaleOnlyThen, StaleAlwaysThen, SaysStaleAtOnce, Orderly, Copies, GoesByTrack, NeverStale}
 use Rattle.model.specs.declared.Registers.{Registers}
 use Rattle.model.specs.declared.Operation.{Operation}
@@ -21,9 +21,9 @@ use Rattle.model.specs.declared.Answer.{Answer}
 use Rattle.model.specs.declared.Answer.TheVariants.{Done, Faulted, Refused}
 use Rattle.model.specs.declared.Refusal.TheVariants.{StalePage}
 use Rattle.model.proofs.BoolLaws.{and_both}
-use Rattle.model.proofs.Checks.{asConditions, staleCondition, checks-same}
-use Rattle.model.proofs.Calls.{not-refused, exactly, plain, unchanged}
-use Rattle.model.proofs.Refuted.{image, readPage2, track0, session, toRoot, afterFirst, chip-plain, start-accepted, free0, first_done, second-done, read_done, copying-orderly, copying-by-track, no-user-start, no-stale-at-once, no-never-stale, orderly, by-track, call, copying, copyingStep}
+use Rattle.model.proofs.Checks.{as_conditions, stale_condition, checks_same}
+use Rattle.model.proofs.Calls.{not_refused, exactly, plain, unchanged}
+use Rattle.model.proofs.Refuted.{image, read_page2, track0, session, to_root, after_first, chip_plain, start_accepted, free0, first_done, second_done, read_done, copying_orderly, copying_by_track, no_user_start, no_stale_at_once, no_never_stale, orderly, by_track, call, copying, copying_step}
 use Rattle.model.proofs.CaseTools.{next as stepOn}
 
 -- ── What agrees with the plain machine in each step agrees with it in each run ──
@@ -33,12 +33,12 @@ state_of i g = record { memory = i; registers = g }
 
 -- each step does what the plain machine does, told whether it was refused
 abbrev StepsPlain : Checker → Type 0
-StepsPlain m = (o : Operation) (g : Registers) (i t : List ℕ) → plainStep o (is_refused (shown (m.step o g i t).answer)) (state_of i g) ≡ seen (m.step o g i t)
+StepsPlain m = (o : Operation) (g : Registers) (i t : List ℕ) → plain_step o (is_refused (shown (m.step o g i t).answer)) (state_of i g) ≡ seen (m.step o g i t)
 
 -- each step of this project's checker does, on any track
-step-plain : StepsPlain checker
-unfolding plainStep seen is_refused
-step-plain o g i t = by (shown y.answer) refl
+step_plain : StepsPlain checker
+unfolding plain_step seen is_refused
+step_plain o g i t = by (shown y.answer) refl
   where
     y : After
     y = stepped o g i t
@@ -46,169 +46,169 @@ step-plain o g i t = by (shown y.answer) refl
     left : State
     left = state_of y.memory y.registers
 
-    does : (x : Result) → shown y.answer ≡ x → is_refused x ≡ false → carriedOut o (state_of i g) ≡ (x, left)
+    does : (x : Result) → shown y.answer ≡ x → is_refused x ≡ false → carried_out o (state_of i g) ≡ (x, left)
     does x e f =
-        sym (plain (call o g i t) (λ r p. not-refused (shown y.answer) r (ap is_refused e ∙ f) ((exactly (call o g i t) r).1 p)))
+        sym (plain (call o g i t) (λ r p. not_refused (shown y.answer) r (ap is_refused e ∙ f) ((exactly (call o g i t) r).1 p)))
         ∙ (λ k. (e k, left))
 
-    by : (x : Result) → shown y.answer ≡ x → plainStep o (is_refused x) (state_of i g) ≡ (cond (is_refused x) none (some x), left)
+    by : (x : Result) → shown y.answer ≡ x → plain_step o (is_refused x) (state_of i g) ≡ (cond (is_refused x) none (some x), left)
     by (ok v) e = ap (λ (z : Result × State). (some z.0, z.1)) (does (ok v) e refl)
     by (fault n) e = ap (λ (z : Result × State). (some z.0, z.1)) (does (fault n) e refl)
     by (refused r) e = let u = unchanged (call o g i t) r e in λ k. (none, state_of (sym u.memory k) (sym u.registers k))
 
-run-plain : (m : Checker) → StepsPlain m → (x : After) (os : List Operation) → plainRun (state_of x.memory x.registers) (told m x os) ≡ map seen (checkerRun m x os)
-unfolding plainRun told checkerRun seen
-run-plain m h x [] = refl
-run-plain m h x (o ∷ os) =
+run_plain : (m : Checker) → StepsPlain m → (x : After) (os : List Operation) → plain_run (state_of x.memory x.registers) (told m x os) ≡ map seen (checker_run m x os)
+unfolding plain_run told checker_run seen
+run_plain m h x [] = refl
+run_plain m h x (o ∷ os) =
     let e = h o x.registers x.memory x.track in
-    ap₂ ◌∷◌ e (ap (λ (y : Option Result × State). plainRun y.1 (told m (next m o x) os)) e ∙ run-plain m h (next m o x) os)
+    ap₂ ◌∷◌ e (ap (λ (y : Option Result × State). plain_run y.1 (told m (next m o x) os)) e ∙ run_plain m h (next m o x) os)
 
-started-plain : (step : Operation → Registers → List ℕ → List ℕ → After) → StepsPlain (record { start = started; step = step }) → SamePlain (record { start = started; step = step })
-started-plain step h x acc =
-    ap (λ (s : State). plainRun s (toldOf (record { start = started; step = step }) x)) (sym (by-track.begins x acc))
-    ∙ run-plain (record { start = started; step = step }) h (started x.image x.track x.setting) x.operations
+started_plain : (step : Operation → Registers → List ℕ → List ℕ → After) → StepsPlain (record { start = started; step = step }) → SamePlain (record { start = started; step = step })
+started_plain step h x acc =
+    ap (λ (s : State). plain_run s (told_of (record { start = started; step = step }) x)) (sym (by_track.begins x acc))
+    ∙ run_plain (record { start = started; step = step }) h (started x.image x.track x.setting) x.operations
 
 -- ── `Same.begins`: its start returns user mode ──
 
-pub userStart : Checker
-userStart = record { start = λ i t g. inUserMode (started i t g); step = stepped }
+pub user_start : Checker
+user_start = record { start = λ i t g. in_user_mode (started i t g); step = stepped }
   where
-    inUserMode : After → After
-    inUserMode x = record {
+    in_user_mode : After → After
+    in_user_mode x = record {
       answer = x.answer;
       registers = record { root = x.registers.root; context = x.registers.context; mode = 1; domains = x.registers.domains };
       memory = x.memory;
       track = x.track;
     }
 
-user-orderly : Orderly userStart
-unfolding userStart
-user-orderly = record {
+user_orderly : Orderly user_start
+unfolding user_start
+user_orderly = record {
   starts = orderly.starts;
   steps = orderly.steps;
   only16 = orderly.only16;
-  startLength = orderly.startLength;
-  stepLength = orderly.stepLength;
+  start_length = orderly.start_length;
+  step_length = orderly.step_length;
 }
 
-pub user-start-refuted : SameBegins userStart → ⊥
-unfolding userStart
-user-start-refuted begins = no-user-start userStart user-orderly (λ i t root. refl) begins
+pub user_start_refuted : SameBegins user_start → ⊥
+unfolding user_start
+user_start_refuted begins = no_user_start user_start user_orderly (λ i t root. refl) begins
 
 -- ── `Same.plain`: it answers 0 to every read that it carries out ──
 
-pub readsZero : Checker
-readsZero = record { start = started; step = λ o g i t. zeroed (stepped o g i t) }
+pub reads_zero : Checker
+reads_zero = record { start = started; step = λ o g i t. zeroed (stepped o g i t) }
   where
-    zero-answer : Answer → Answer
-    zero-answer (Done v) = Done 0
-    zero-answer (Faulted f) = Faulted f
-    zero-answer (Refused r) = Refused r
+    zero_answer : Answer → Answer
+    zero_answer (Done v) = Done 0
+    zero_answer (Faulted f) = Faulted f
+    zero_answer (Refused r) = Refused r
 
     zeroed : After → After
-    zeroed x = record { answer = zero-answer x.answer; registers = x.registers; memory = x.memory; track = x.track }
+    zeroed x = record { answer = zero_answer x.answer; registers = x.registers; memory = x.memory; track = x.track }
 
 -- with root 0x80 page 2 is mapped, and the plain machine reads 7 there
-readOnce : Session
-readOnce = session 0x80 (readPage2 ∷ [])
+read_once : Session
+read_once = session 0x80 (read_page2 ∷ [])
 
-headAnswer : List (Option Result × State) → Option Result
-headAnswer [] = none
-headAnswer (y ∷ ys) = y.0
+head_answer : List (Option Result × State) → Option Result
+head_answer [] = none
+head_answer (y ∷ ys) = y.0
 
-zero-accepted : Accepted readsZero readOnce
-unfolding readsZero readOnce session image track0 is_refused stepOn
-zero-accepted = refl
+zero_accepted : Accepted reads_zero read_once
+unfolding reads_zero read_once session image track0 is_refused stepOn
+zero_accepted = refl
 
-zero-read : headAnswer (map seen (checkerRunOf readsZero readOnce)) ≡ some (ok 0)
-unfolding readsZero readOnce headAnswer session image track0 readPage2 checkerRun seen is_refused stepOn
-zero-read = refl
+zero_read : head_answer (map seen (checker_run_of reads_zero read_once)) ≡ some (ok 0)
+unfolding reads_zero read_once head_answer session image track0 read_page2 checker_run seen is_refused stepOn
+zero_read = refl
 
-seven-read : headAnswer (plainRunOf readsZero readOnce) ≡ some (ok 7)
-unfolding readsZero readOnce headAnswer session image track0 readPage2 told is_refused stepOn plainRun plainStep carriedOut effect access translated touched aligned accessSize among may_read may_write permits field_of ruling ruled rightOf physical fresh outcome walk descriptor tableWord section domainOf bits value in_memory
-seven-read = refl
+seven_read : head_answer (plain_run_of reads_zero read_once) ≡ some (ok 7)
+unfolding reads_zero read_once head_answer session image track0 read_page2 told is_refused stepOn plain_run plain_step carried_out effect access translated touched aligned access_size among may_read may_write permits field_of ruling ruled right_of physical fresh outcome walk descriptor table_word section domain_of bits value in_memory
+seven_read = refl
 
-pub reads-zero-refuted : SamePlain readsZero → ⊥
-reads-zero-refuted plain = zero-seven (sym zero-read ∙ ap headAnswer (sym (plain readOnce zero-accepted)) ∙ seven-read)
+pub reads_zero_refuted : SamePlain reads_zero → ⊥
+reads_zero_refuted plain = zero_seven (sym zero_read ∙ ap head_answer (sym (plain read_once zero_accepted)) ∙ seven_read)
   where
-    zero-seven : ◌≡◌ {A = Option Result} (some (ok 0)) (some (ok 7)) → ⊥
-    zero-seven q = let z : ◌≡◌ {A = ℕ} 0 7 = cc in omega arith
+    zero_seven : ◌≡◌ {A = Option Result} (some (ok 0)) (some (ok 7)) → ⊥
+    zero_seven q = let z : ◌≡◌ {A = ℕ} 0 7 = cc in omega arith
 
 -- ── `Same.chip`: it copies the track ──
 
 -- root 0x80, root 0, a read of page 2, all carried out
-abbrev readAfter : List (Operation × Bool)
-readAfter = (toRoot 0x80, false) ∷ (toRoot 0, false) ∷ (readPage2, false) ∷ []
+abbrev read_after : List (Operation × Bool)
+read_after = (to_root 0x80, false) ∷ (to_root 0, false) ∷ (read_page2, false) ∷ []
 
-thirdAnswer : List (Option Result × State) → Option Result
-thirdAnswer [] = none
-thirdAnswer (x ∷ []) = none
-thirdAnswer (x ∷ y ∷ zs) = headAnswer zs
+third_answer : List (Option Result × State) → Option Result
+third_answer [] = none
+third_answer (x ∷ []) = none
+third_answer (x ∷ y ∷ zs) = head_answer zs
 
 -- the plain machine faults; a chip of one place that loaded page 2 after the first operation reads the 7
-plain-faults : thirdAnswer (plainRun (fresh image (rooted 0)) readAfter) ≡ some (fault 0x5)
-unfolding thirdAnswer headAnswer plainRun plainStep carriedOut effect setRegisters access translated aligned accessSize among fresh outcome walk descriptor tableWord bits value in_memory readPage2 toRoot image
-plain-faults = refl
+plain_faults : third_answer (plain_run (fresh image (rooted 0)) read_after) ≡ some (fault 0x5)
+unfolding third_answer head_answer plain_run plain_step carried_out effect set_registers access translated aligned access_size among fresh outcome walk descriptor table_word bits value in_memory read_page2 to_root image
+plain_faults = refl
 
-chip-reads : thirdAnswer (map chipSeen (chipRun (chipStart 1 (fresh image (rooted 0)) []) readAfter afterFirst)) ≡ some (ok 7)
-unfolding thirdAnswer headAnswer chipRun chipStart chipNext chipStep chipSeen chipOutcome orWalk effect setRegisters access translated touched aligned accessSize among may_read may_write permits field_of ruling ruled rightOf physical fresh moves move rowSize isFree heldFor matches anyClash put_in outcome walk descriptor tableWord section globalBy domainOf bits value in_memory heldScope scope_of covers flushPlace flushes readPage2 toRoot image afterFirst
-chip-reads = refl
+chip_reads : third_answer (map chip_seen (chip_run (chip_start 1 (fresh image (rooted 0)) []) read_after after_first)) ≡ some (ok 7)
+unfolding third_answer head_answer chip_run chip_start chip_next chip_step chip_seen chip_outcome or_walk effect set_registers access translated touched aligned access_size among may_read may_write permits field_of ruling ruled right_of physical fresh moves move row_size is_free held_for matches any_clash put_in outcome walk descriptor table_word section global_by domain_of bits value in_memory held_scope scope_of covers flush_place flushes read_page2 to_root image after_first
+chip_reads = refl
 
-faults-reads : ◌≡◌ {A = Option Result} (some (fault 0x5)) (some (ok 7)) → ⊥
-faults-reads q = let z : ◌≡◌ {A = Bool} true false = cc in true≢false z
+faults_reads : ◌≡◌ {A = Option Result} (some (fault 0x5)) (some (ok 7)) → ⊥
+faults_reads q = let z : ◌≡◌ {A = Bool} true false = cc in true≢false z
 
 -- Start with root 0, `root 0x80`, `root 0`, a read of page 2: one that copies the track and goes by it carries the read out, as
 -- the word of page 2 is empty since start. No answer then agrees both with a chip that loaded page 2 between and with one that loaded nothing.
-pub no-copying-chip : (m : Checker) → Orderly m → GoesByTrack m → Copies m → SameChip m → ⊥
+pub no_copying_chip : (m : Checker) → Orderly m → GoesByTrack m → Copies m → SameChip m → ⊥
 unfolding session told
-no-copying-chip m ord by w agrees =
-    faults-reads
-    (sym plain-faults
-    ∙ ap (λ l. thirdAnswer (plainRun (fresh image (rooted 0)) l)) (sym told-all)
-    ∙ ap thirdAnswer (plain all acc ∙ sym (agrees all acc 0 [] afterFirst))
-    ∙ ap (λ l. thirdAnswer (map chipSeen (chipRun (chipStart 1 (fresh image (rooted 0)) []) l afterFirst))) told-all
-    ∙ chip-reads)
+no_copying_chip m ord by w agrees =
+    faults_reads
+    (sym plain_faults
+    ∙ ap (λ l. third_answer (plain_run (fresh image (rooted 0)) l)) (sym told_all)
+    ∙ ap third_answer (plain all acc ∙ sym (agrees all acc 0 [] after_first))
+    ∙ ap (λ l. third_answer (map chip_seen (chip_run (chip_start 1 (fresh image (rooted 0)) []) l after_first))) told_all
+    ∙ chip_reads)
   where
     plain : SamePlain m
-    plain = chip-plain m agrees
+    plain = chip_plain m agrees
 
     all : Session
-    all = session 0 (toRoot 0x80 ∷ toRoot 0 ∷ readPage2 ∷ [])
+    all = session 0 (to_root 0x80 ∷ to_root 0 ∷ read_page2 ∷ [])
 
     acc : Accepted m all
-    acc = start-accepted m ord 0 free0 (toRoot 0x80 ∷ toRoot 0 ∷ readPage2 ∷ [])
+    acc = start_accepted m ord 0 free0 (to_root 0x80 ∷ to_root 0 ∷ read_page2 ∷ [])
 
-    told-all : toldOf m all ≡ readAfter
-    told-all = λ i. (toRoot 0x80, first_done m ord by.begins plain i) ∷ (toRoot 0, second-done m ord by.begins plain i) ∷ (readPage2, read_done m ord by.begins plain w by i) ∷ []
+    told_all : told_of m all ≡ read_after
+    told_all = λ i. (to_root 0x80, first_done m ord by.begins plain i) ∷ (to_root 0, second_done m ord by.begins plain i) ∷ (read_page2, read_done m ord by.begins plain w by i) ∷ []
 
 -- so too the one made of this project's checker
-pub copying-not-chip : SameChip copying → ⊥
-unfolding copying copyingStep
-copying-not-chip agrees = no-copying-chip copying copying-orderly copying-by-track (λ o g i t. refl) agrees
+pub copying_not_chip : SameChip copying → ⊥
+unfolding copying copying_step
+copying_not_chip agrees = no_copying_chip copying copying_orderly copying_by_track (λ o g i t. refl) agrees
 
-pub copying-not-same : Same copying → ⊥
-copying-not-same s = copying-not-chip s.chip
+pub copying_not_same : Same copying → ⊥
+copying_not_same s = copying_not_chip s.chip
 
 -- the other two fields of the first half hold of it
-pub copying-begins : SameBegins copying
+pub copying_begins : SameBegins copying
 unfolding copying
-copying-begins = by-track.begins
+copying_begins = by_track.begins
 
-pub copying-plain : SamePlain copying
-unfolding copying copyingStep seen
-copying-plain = started-plain copyingStep step-plain
+pub copying_plain : SamePlain copying
+unfolding copying copying_step seen
+copying_plain = started_plain copying_step step_plain
 
 -- ── `Exactly.stale`, 16 only where a TLB could differ: it says 16 at every aligned access ──
 
-pub alwaysStale : Checker
-alwaysStale = record { start = started; step = λ o g i t. cond (alignedAccess o) (turnedBack StalePage g i t) (stepped o g i t) }
+pub always_stale : Checker
+always_stale = record { start = started; step = λ o g i t. cond (aligned_access o) (turned_back StalePage g i t) (stepped o g i t) }
 
-says-at-once : SaysStaleAtOnce alwaysStale
-unfolding alwaysStale session image track0 readPage2 is_refused stepOn alignedAccess isAccess among accessSize aligned
-says-at-once = record { session = session 0 []; operation = readPage2; nothingBefore = refl; accepted = refl; access = refl; says16 = refl }
+says_at_once : SaysStaleAtOnce always_stale
+unfolding always_stale session image track0 read_page2 is_refused stepOn aligned_access is_access among access_size aligned
+says_at_once = record { session = session 0 []; operation = read_page2; nothing_before = refl; accepted = refl; access = refl; says16 = refl }
 
-pub always-stale-refuted : StaleOnlyThen alwaysStale → ⊥
-always-stale-refuted then = no-stale-at-once alwaysStale says-at-once then
+pub always_stale_refuted : StaleOnlyThen always_stale → ⊥
+always_stale_refuted then = no_stale_at_once always_stale says_at_once then
 
 -- ── `Exactly.stale`, 16 wherever a TLB could differ: it empties the track before each operation, and so never says 16 ──
 
@@ -218,31 +218,31 @@ emptied t = replicate (length t) 0
 pub forgetful : Checker
 forgetful = record { start = started; step = λ o g i t. stepped o g i (emptied t) }
 
-emptied-length : (t : List ℕ) → length (emptied t) ≡ length t
+emptied_length : (t : List ℕ) → length (emptied t) ≡ length t
 unfolding emptied
-emptied-length t = length-replicate (length t) 0
+emptied_length t = length-replicate (length t) 0
 
-zero-at : (n i : ℕ) → get_or {A = ℕ} (replicate n 0) i 0 ≡ 0
-zero-at zero i = refl
-zero-at (suc n) zero = refl
-zero-at (suc n) (suc i) = zero-at n i
+zero_at : (n i : ℕ) → get_or {A = ℕ} (replicate n 0) i 0 ≡ 0
+zero_at zero i = refl
+zero_at (suc n) zero = refl
+zero_at (suc n) (suc i) = zero_at n i
 
 -- so no page is stale by it, in any context
-emptied-word : (t : List ℕ) (u : Scope) (p : ℕ) → trackWord oldWindow (emptied t) u p ≡ 0
-unfolding emptied trackWord
-emptied-word t u p = zero-at (length t) _
+emptied_word : (t : List ℕ) (u : Scope) (p : ℕ) → track_word old_window (emptied t) u p ≡ 0
+unfolding emptied track_word
+emptied_word t u p = zero_at (length t) _
 
-emptied-free : (t : List ℕ) (c p : ℕ) (y : Translation) → stale oldWindow (emptied t) c p y ≡ false
+emptied_free : (t : List ℕ) (c p : ℕ) (y : Translation) → stale old_window (emptied t) c p y ≡ false
 unfolding stale kept differs
-emptied-free t c p y = rw (emptied-word t (own c) p, emptied-word t global p)
+emptied_free t c p y = rw (emptied_word t (own c) p, emptied_word t global p)
 
-emptied-never : NeverStale forgetful
+emptied_never : NeverStale forgetful
 unfolding forgetful refuses16
-emptied-never o g i t q =
+emptied_never o g i t q =
     let y = walk i g.root o.a in
     true≢false
-    (sym (and_both (among o.kind accesses && aligned o.a (accessSize o)) (stale oldWindow (emptied t) g.context (o.a / pageSize) y) (by-track.says16 o g i (emptied t) q)).1
-    ∙ emptied-free t g.context (o.a / pageSize) y)
+    (sym (and_both (among o.kind accesses && aligned o.a (access_size o)) (stale old_window (emptied t) g.context (o.a / page_size) y) (by_track.says16 o g i (emptied t) q)).1
+    ∙ emptied_free t g.context (o.a / page_size) y)
 
 -- it refuses by other numbers as the rules do: their conditions ask no more of the track than its length
 other_last : (r : ℕ) (b c : Bool) → (r ≡ 16 → ⊥) → (xs : List (ℕ × Bool)) → Given r (xs ++ (16, b) ∷ []) → Given r (xs ++ (16, c) ∷ [])
@@ -254,24 +254,24 @@ other_last r b c n (x ∷ xs) (inr g) = inr (g.0, other_last r b c n xs g.1)
 
 by_length : (o : Operation) (g : Registers) (i t u : List ℕ) (r : ℕ) → length t ≡ length u → (r ≡ 16 → ⊥) → Given r (conditions o g i t) → Given r (conditions o g i u)
 by_length o g i t u r e n y =
-    subst (Given r) (checks-same (call o g i u))
-    (subst (λ k. Given r (asConditions (checks o g (length i) k) ++ staleCondition (call o g i u) ∷ [])) e
-    (other_last r _ _ n (asConditions (checks o g (length i) (length t))) (subst (Given r) (sym (checks-same (call o g i t))) y)))
+    subst (Given r) (checks_same (call o g i u))
+    (subst (λ k. Given r (as_conditions (checks o g (length i) k) ++ stale_condition (call o g i u) ∷ [])) e
+    (other_last r _ _ n (as_conditions (checks o g (length i) (length t))) (subst (Given r) (sym (checks_same (call o g i t))) y)))
 
-forgetful-orderly : Orderly forgetful
+forgetful_orderly : Orderly forgetful
 unfolding forgetful
-forgetful-orderly = record {
+forgetful_orderly = record {
   starts = orderly.starts;
-  steps = λ o g i t r q n. by_length o g i (emptied t) t r (emptied-length t) n (orderly.steps o g i (emptied t) r q n);
+  steps = λ o g i t r q n. by_length o g i (emptied t) t r (emptied_length t) n (orderly.steps o g i (emptied t) r q n);
   only16 = λ o g i t q. orderly.only16 o g i (emptied t) q;
-  startLength = orderly.startLength;
-  stepLength = λ o g i t. orderly.stepLength o g i (emptied t) ∙ emptied-length t;
+  start_length = orderly.start_length;
+  step_length = λ o g i t. orderly.step_length o g i (emptied t) ∙ emptied_length t;
 }
 
-pub forgetful-plain : SamePlain forgetful
+pub forgetful_plain : SamePlain forgetful
 unfolding forgetful
-forgetful-plain = started-plain _ (λ o g i t. step-plain o g i (emptied t))
+forgetful_plain = started_plain _ (λ o g i t. step_plain o g i (emptied t))
 
-pub forgetful-refuted : StaleAlwaysThen forgetful → ⊥
+pub forgetful_refuted : StaleAlwaysThen forgetful → ⊥
 unfolding forgetful
-forgetful-refuted always = no-never-stale forgetful forgetful-orderly by-track.begins forgetful-plain emptied-never always
+forgetful_refuted always = no_never_stale forgetful forgetful_orderly by_track.begins forgetful_plain emptied_never always

@@ -15,28 +15,28 @@ use Rattle.model.specs.declared.Refusal.{Refusal}
 use Rattle.model.specs.declared.Refusal.TheVariants.{WrongRoot, WrongContext, WrongMode, WrongDomains, UserMode, NotContext0}
 use Rattle.model.specs.declared.Check.{Check}
 use Rattle.model.specs.declared.Check.TheVariants.{Pass, Refuse}
-use Rattle.model.specs.step.Checks.{firstFailing, Says}
+use Rattle.model.specs.step.Checks.{first_failing, Says}
 
 -- a check that is passed, and one that is not: t is the answer of the function for the check u
-pub passed : {t u : Bool} {x : Check} (n : Refusal) (xs : List (Bool × Refusal)) → t ≡ u → not t ≡ false → Says (firstFailing xs) x → Says (firstFailing ((u, n) ∷ xs)) x
-unfolding firstFailing
+pub passed : {t u : Bool} {x : Check} (n : Refusal) (xs : List (Bool × Refusal)) → t ≡ u → not t ≡ false → Says (first_failing xs) x → Says (first_failing ((u, n) ∷ xs)) x
+unfolding first_failing
 passed {t} n xs e h p = rw (sym e ∙ not-false t h) p
 
-pub failed : {t u : Bool} (n : Refusal) (xs : List (Bool × Refusal)) → t ≡ u → not t ≡ true → Says (firstFailing ((u, n) ∷ xs)) (Refuse n)
-unfolding firstFailing
+pub failed : {t u : Bool} (n : Refusal) (xs : List (Bool × Refusal)) → t ≡ u → not t ≡ true → Says (first_failing ((u, n) ∷ xs)) (Refuse n)
+unfolding first_failing
 failed {t} n xs e h = rw (sym e ∙ not-true t h) (record { check = refl; number = refl })
 
 -- no check is left
-pub none_left : Says (firstFailing []) Pass
-unfolding firstFailing
+pub none_left : Says (first_failing []) Pass
+unfolding first_failing
 none_left = record { check = refl; number = refl }
 
 -- what is said of the checks from that of a new root on, by the answers of their functions, is said of the checks
-pub as-tested : {a a' b b' c c' d d' e e' f f' : Bool} {x : Check} → a ≡ a' → b ≡ b' → c ≡ c' → d ≡ d' → e ≡ e' → f ≡ f' →
-    Says (firstFailing ((a, WrongRoot) ∷ (b, WrongContext) ∷ (c, WrongMode) ∷ (d, WrongDomains) ∷ (e, UserMode) ∷ (f, NotContext0) ∷ [])) x →
-    Says (firstFailing ((a', WrongRoot) ∷ (b', WrongContext) ∷ (c', WrongMode) ∷ (d', WrongDomains) ∷ (e', UserMode) ∷ (f', NotContext0) ∷ [])) x
-as-tested {x = x} p q r s t u h =
-    subst (λ (l : List (Bool × Refusal)). Says (firstFailing l) x)
+pub as_tested : {a a' b b' c c' d d' e e' f f' : Bool} {x : Check} → a ≡ a' → b ≡ b' → c ≡ c' → d ≡ d' → e ≡ e' → f ≡ f' →
+    Says (first_failing ((a, WrongRoot) ∷ (b, WrongContext) ∷ (c, WrongMode) ∷ (d, WrongDomains) ∷ (e, UserMode) ∷ (f, NotContext0) ∷ [])) x →
+    Says (first_failing ((a', WrongRoot) ∷ (b', WrongContext) ∷ (c', WrongMode) ∷ (d', WrongDomains) ∷ (e', UserMode) ∷ (f', NotContext0) ∷ [])) x
+as_tested {x = x} p q r s t u h =
+    subst (λ (l : List (Bool × Refusal)). Says (first_failing l) x)
     (λ i. (p i, WrongRoot) ∷ (q i, WrongContext) ∷ (r i, WrongMode) ∷ (s i, WrongDomains) ∷ (t i, UserMode) ∷ (u i, NotContext0) ∷ []) h
 
 -- The arm for the other kinds: ks are their places among the variants, and P is shown of each of them.

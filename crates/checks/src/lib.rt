@@ -1,8 +1,8 @@
 // The checks that stand before an access, one function to each, and the numbers of refusals.
 ghost use Rattle.std.specs.Prelude.{◌≡◌, [], ◌∷◌, ◌<◌};
-ghost use Rattle.model.specs.Numbers.{refusalNumber};
+ghost use Rattle.model.specs.Numbers.{refusal_number};
 ghost use Rattle.model.specs.declared.Refusal.TheVariants.{WrongRoot, WrongContext, WrongMode, WrongDomains, UserMode, NotContext0};
-ghost use Rattle.model.specs.step.Checks.{sizeFits, addressFits, valueFits, newRootFits, contextFits, modeFits, newDomainsFit, mayAsk, rootMayChange, checks, startChecks, firstFailing, Says};
+ghost use Rattle.model.specs.step.Checks.{size_fits, address_fits, value_fits, new_root_fits, context_fits, mode_fits, new_domains_fit, may_ask, root_may_change, checks, start_checks, first_failing, Says};
 
 use limits::{
     domains_fit, fits_size, in_window, is_size, last_row, lengths_fit, registers_fit, root_fits,
@@ -11,7 +11,7 @@ use model::{Check, Kind, OLD_SPLIT, OLD_WINDOW, Operation, Refusal, Registers, S
 
 // Whether the size of a read or a write is one.
 pub fn size_fits(kind: Kind, b: u32) -> bool
-    ensures { result ≡ sizeFits kind b }
+    ensures { result ≡ size_fits kind b }
 {
     match kind {
         Kind::Read => is_size(b),
@@ -22,7 +22,7 @@ pub fn size_fits(kind: Kind, b: u32) -> bool
 
 // Whether the virtual address of an operation lies in the window.
 pub fn address_fits(window: u32, kind: Kind, a: u32) -> bool
-    ensures { result ≡ addressFits window kind a }
+    ensures { result ≡ address_fits window kind a }
 {
     let inside = in_window(window, a);
     match kind {
@@ -37,7 +37,7 @@ pub fn address_fits(window: u32, kind: Kind, a: u32) -> bool
 
 // Whether the value of a write fits its size.
 pub fn value_fits(kind: Kind, b: u32, c: u32) -> bool
-    ensures { result ≡ valueFits kind b c }
+    ensures { result ≡ value_fits kind b c }
 {
     match kind {
         Kind::Write => fits_size(b, c),
@@ -47,7 +47,7 @@ pub fn value_fits(kind: Kind, b: u32, c: u32) -> bool
 
 // Whether a new root has its alignment.
 pub fn new_root_fits(split: u32, kind: Kind, a: u32) -> bool
-    ensures { result ≡ newRootFits split kind a }
+    ensures { result ≡ new_root_fits split kind a }
 {
     match kind {
         Kind::Root => root_fits(split, a),
@@ -57,7 +57,7 @@ pub fn new_root_fits(split: u32, kind: Kind, a: u32) -> bool
 
 // Whether the context that an operation names is one of k.
 pub fn context_fits(kind: Kind, a: u32, b: u32, k: usize) -> bool
-    ensures { result ≡ contextFits kind a b k }
+    ensures { result ≡ context_fits kind a b k }
 {
     match kind {
         Kind::Asid => (a as usize) < k,
@@ -69,7 +69,7 @@ pub fn context_fits(kind: Kind, a: u32, b: u32, k: usize) -> bool
 
 // Whether a new mode is one.
 pub fn mode_fits(kind: Kind, a: u32) -> bool
-    ensures { result ≡ modeFits kind a }
+    ensures { result ≡ mode_fits kind a }
 {
     match kind {
         Kind::Mode => a <= 1,
@@ -79,7 +79,7 @@ pub fn mode_fits(kind: Kind, a: u32) -> bool
 
 // Whether no field of a new domain register is 2.
 pub fn new_domains_fit(kind: Kind, a: u32) -> bool
-    ensures { result ≡ newDomainsFit kind a }
+    ensures { result ≡ new_domains_fit kind a }
 {
     match kind {
         Kind::Domain => domains_fit(a),
@@ -89,7 +89,7 @@ pub fn new_domains_fit(kind: Kind, a: u32) -> bool
 
 // Whether an operation may be asked for in this mode.
 pub fn may_ask(kind: Kind, mode: u32) -> bool
-    ensures { result ≡ mayAsk kind mode }
+    ensures { result ≡ may_ask kind mode }
 {
     match kind {
         Kind::Read => true,
@@ -102,7 +102,7 @@ pub fn may_ask(kind: Kind, mode: u32) -> bool
 
 // Whether an operation, if it sets the root, may do so in this context.
 pub fn root_may_change(kind: Kind, context: u32) -> bool
-    ensures { result ≡ rootMayChange kind context }
+    ensures { result ≡ root_may_change kind context }
 {
     match kind {
         Kind::Root => context == 0,
@@ -119,7 +119,7 @@ fn check_new_values(
     asked: bool,
     changes: bool,
 ) -> Check
-    ensures { Says (firstFailing ((root, WrongRoot) ∷ (context, WrongContext) ∷ (mode, WrongMode) ∷ (domains, WrongDomains) ∷ (asked, UserMode) ∷ (changes, NotContext0) ∷ [])) result }
+    ensures { Says (first_failing ((root, WrongRoot) ∷ (context, WrongContext) ∷ (mode, WrongMode) ∷ (domains, WrongDomains) ∷ (asked, UserMode) ∷ (changes, NotContext0) ∷ [])) result }
 {
     if !root {
         return Check::Refuse(Refusal::WrongRoot);
@@ -144,7 +144,7 @@ fn check_new_values(
 
 // The first check that an operation fails, on a memory of m bytes and a track of t words.
 pub fn check(o: Operation, r: Registers, m: usize, t: usize) -> Check
-    ensures { Says (firstFailing (checks o r m t)) result }
+    ensures { Says (first_failing (checks o r m t)) result }
 {
     let kind = o.kind;
     let lengths = lengths_fit(OLD_WINDOW, m, t);
@@ -179,7 +179,7 @@ pub fn check(o: Operation, r: Registers, m: usize, t: usize) -> Check
 
 // The first check that a start fails.
 pub fn check_start(m: usize, t: usize, setting: Setting) -> Check
-    ensures { Says (firstFailing (startChecks m t setting)) result }
+    ensures { Says (first_failing (start_checks m t setting)) result }
 {
     if !lengths_fit(OLD_WINDOW, m, t) {
         return Check::Refuse(Refusal::WrongLengths);
@@ -192,7 +192,7 @@ pub fn check_start(m: usize, t: usize, setting: Setting) -> Check
 
 // The number of a refusal.
 pub fn refusal_number(n: Refusal) -> u32
-    ensures { (result ≡ refusalNumber n) × (result < 32) }
+    ensures { (result ≡ refusal_number n) × (result < 32) }
 {
     match n {
         Refusal::WrongSize => 7,

@@ -1,22 +1,22 @@
 // Descriptors: what a word of a level-one or a level-two table says of a page.
 ghost use Rattle.std.specs.Prelude.{◌≡◌};
-ghost use Rattle.model.specs.Numbers.{firstFault};
+ghost use Rattle.model.specs.Numbers.{first_fault};
 ghost use Rattle.model.specs.Telling.{Tells};
-ghost use Rattle.model.specs.step.Walk.{firstDomain, sectionEntry, largeEntry, smallEntry, first_of, second_of};
-ghost use Rattle.model.specs.step.WalkAnswer.{outcomeNumber};
+ghost use Rattle.model.specs.step.Walk.{first_domain, section_entry, large_entry, small_entry, first_of, second_of};
+ghost use Rattle.model.specs.step.WalkAnswer.{outcome_number};
 
 use model::{Entry, Fault, FirstLevel, Outcome, Pointer};
 
 // The domain of a level-one word.
 fn domain_of(w: u32) -> u32
-    ensures { result ≡ firstDomain w }
+    ensures { result ≡ first_domain w }
 {
     w / 32 % 16
 }
 
 // The entry of a section's page.
 pub fn section_entry(w: u32, page: usize) -> Entry
-    ensures { result ≡ sectionEntry w page }
+    ensures { result ≡ section_entry w page }
 {
     Entry {
         frame: w / 1048576 % 4096 * 256 + (page % 256) as u32,
@@ -30,7 +30,7 @@ pub fn section_entry(w: u32, page: usize) -> Entry
 
 // The entry of a large page's page, in a table of this domain.
 pub fn large_entry(w: u32, page: usize, domain: u32) -> Entry
-    ensures { result ≡ largeEntry w page domain }
+    ensures { result ≡ large_entry w page domain }
 {
     Entry {
         frame: w / 65536 % 65536 * 16 + (page % 16) as u32,
@@ -44,7 +44,7 @@ pub fn large_entry(w: u32, page: usize, domain: u32) -> Entry
 
 // The entry of a small page, in a table of this domain.
 pub fn small_entry(w: u32, domain: u32) -> Entry
-    ensures { result ≡ smallEntry w domain }
+    ensures { result ≡ small_entry w domain }
 {
     Entry {
         frame: w / 4096 % 1048576,
@@ -58,7 +58,7 @@ pub fn small_entry(w: u32, domain: u32) -> Entry
 
 // What a level-one word says of a page.
 pub fn first_of(w: u32, page: usize) -> FirstLevel
-    ensures { Tells firstFault (first_of w page) result }
+    ensures { Tells first_fault (first_of w page) result }
 {
     let kind = w % 4;
     if kind == 1 {
@@ -79,7 +79,7 @@ pub fn first_of(w: u32, page: usize) -> FirstLevel
 
 // What a level-two word says of a page, in a table of this domain.
 pub fn second_of(w: u32, page: usize, domain: u32) -> Outcome
-    ensures { Tells outcomeNumber (second_of w page domain) result }
+    ensures { Tells outcome_number (second_of w page domain) result }
 {
     let kind = w % 4;
     if kind == 0 {

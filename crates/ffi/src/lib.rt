@@ -1,13 +1,13 @@
 // Start and one step as C functions over words and bytes, so that Rust can hand the machine any state.
 ghost use Rattle.std.specs.Prelude.{◌≡◌, length, get_or};
 ghost use Rattle.model.specs.reference.Rules.{rooted};
-ghost use Rattle.ffi.specs.Words.{kindFrom, operationFrom, registersFrom, registersInto, answerNumber, areWords, Left, stepCall, startCall};
+ghost use Rattle.ffi.specs.Words.{kind_from, operation_from, registers_from, registers_into, answer_number, are_words, Left, step_call, start_call};
 
 use model::{Answer, Kind, Operation, Registers, Setting};
 
 // The kind with this number.
 fn kind_from(k: u32) -> Kind
-    ensures { result ≡ kindFrom k }
+    ensures { result ≡ kind_from k }
 {
     if k == 0 {
         return Kind::Read;
@@ -54,7 +54,7 @@ fn word(s: &[u32], i: usize) -> u32
 
 // The operation in four words: kind, a, b and c.
 fn operation_from(o: &[u32]) -> Operation
-    ensures { result ≡ operationFrom o.now }
+    ensures { result ≡ operation_from o.now }
 {
     Operation {
         kind: kind_from(word(o, 0)),
@@ -66,7 +66,7 @@ fn operation_from(o: &[u32]) -> Operation
 
 // The registers in four words: root, context, mode and domains.
 fn registers_from(r: &[u32]) -> Registers
-    ensures { result ≡ registersFrom r.now }
+    ensures { result ≡ registers_from r.now }
 {
     Registers {
         root: word(r, 0),
@@ -79,7 +79,7 @@ fn registers_from(r: &[u32]) -> Registers
 // Puts registers into four words.
 fn registers_into(r: &mut [u32], x: Registers)
     requires { length r.old ≡ 4 }
-    ensures { r.new ≡ registersInto r.old x }
+    ensures { r.new ≡ registers_into r.old x }
 {
     r[0] = x.root;
     r[1] = x.context;
@@ -89,7 +89,7 @@ fn registers_into(r: &mut [u32], x: Registers)
 
 // An answer as a number: the value, 0x100000000 plus a fault, or 0x200000000 plus a refusal.
 fn answer_number(x: Answer) -> u64
-    ensures { result ≡ answerNumber x }
+    ensures { result ≡ answer_number x }
 {
     match x {
         Answer::Done(v) => v as u64,
@@ -100,7 +100,7 @@ fn answer_number(x: Answer) -> u64
 
 // Whether there are four words with a kind, and four.
 fn are_words(o: &[u32], r: &[u32]) -> bool
-    ensures { result ≡ areWords o.now r.now }
+    ensures { result ≡ are_words o.now r.now }
 {
     if o.len() == 4 {
         if r.len() == 4 {
@@ -115,7 +115,7 @@ fn are_words(o: &[u32], r: &[u32]) -> bool
 // that are no operation or no registers give 0x300000000 and change nothing.
 #[unsafe(no_mangle)]
 pub extern "C" fn machine_step(o: &[u32], r: &mut [u32], m: &mut [u8], t: &mut [u32]) -> u64
-    ensures { Left (stepCall o.now r.old m.old t.old) result r.new m.new t.new }
+    ensures { Left (step_call o.now r.old m.old t.old) result r.new m.new t.new }
 {
     if are_words(o, r) {
         let op = operation_from(o);
@@ -132,7 +132,7 @@ pub extern "C" fn machine_step(o: &[u32], r: &mut [u32], m: &mut [u8], t: &mut [
 // A start; `r` holds the registers returned afterwards.
 #[unsafe(no_mangle)]
 pub extern "C" fn machine_start(m: &[u8], t: &mut [u32], root: u32, r: &mut [u32]) -> u64
-    ensures { Left (startCall m.now t.old (rooted root) r.old) result r.new m.now t.new }
+    ensures { Left (start_call m.now t.old (rooted root) r.old) result r.new m.now t.new }
 {
     if r.len() == 4 {
         let begun = machine::start(m, t, Setting { root });

@@ -11,88 +11,88 @@ use borrow.Author.Tests.{lt-ltb, le-ltb, eq-eqb, ne_eqb}
 use Rattle.text.specs.Split.{same}
 use Rattle.names.specs.Names.{newline}
 use Rattle.model.specs.declared.Size.TheVariants.{Four}
-use Rattle.model.specs.step.Memory.{writtenAt}
+use Rattle.model.specs.step.Memory.{written_at}
 use Rattle.lines.specs.declared.Line.{Line}
-use Rattle.lines.specs.Form.{lineNames, line_of}
-use Rattle.lines.specs.Ways.{gives, refusal, lengthFits}
-use Rattle.lines.specs.Settings.{imageLimit}
+use Rattle.lines.specs.Form.{line_names, line_of}
+use Rattle.lines.specs.Ways.{gives, refusal, length_fits}
+use Rattle.lines.specs.Settings.{image_limit}
 use Rattle.line_reader.specs.declared.Verdict.{Verdict}
 use Rattle.line_reader.specs.declared.Verdict.TheVariants.{Form, Order}
 use Rattle.line_reader.specs.declared.Reader.{Reader}
 use Rattle.line_reader.specs.declared.Told.{Told}
 use Rattle.line_reader.specs.declared.Told.TheVariants.{ShortBuffer, WrongBuffer}
-use Rattle.line_reader.specs.Reading.{State, turn, lateTurn, accept, changed, so_far, oneMore, withByte, namesEnded, wordEnded, said, lineEnded, byteTaken, isDecided, step, feed, lineAfter, complete, lastTest, byVerdict, ending, EndCall, endCall, finished, finishedFile}
+use Rattle.line_reader.specs.Reading.{State, turn, late_turn, accept, changed, so_far, one_more, with_byte, names_ended, word_ended, said, line_ended, byte_taken, is_decided, step, feed, line_after, complete, last_test, by_verdict, ending, EndCall, end_call, finished, finished_file}
 
 module _ (b : ℕ) (s : State) where
   -- a byte more of a line
-  pub byte-added : s.reader.count < length s.line → withByte b s ≡ record { reader = oneMore s.reader; line = set s.line s.reader.count b; image = s.image }
-  unfolding withByte
-  byte-added h = rw (lt-ltb s.reader.count (length s.line) h)
+  pub byte_added : s.reader.count < length s.line → with_byte b s ≡ record { reader = one_more s.reader; line = set s.line s.reader.count b; image = s.image }
+  unfolding with_byte
+  byte_added h = rw (lt-ltb s.reader.count (length s.line) h)
 
-  pub byte-refused : length s.line ≤ s.reader.count → withByte b s ≡ changed (turn Form s.reader) s
-  unfolding withByte
-  byte-refused h = rw (le-ltb s.reader.count (length s.line) h)
+  pub byte_refused : length s.line ≤ s.reader.count → with_byte b s ≡ changed (turn Form s.reader) s
+  unfolding with_byte
+  byte_refused h = rw (le-ltb s.reader.count (length s.line) h)
 
   -- a byte
-  pub taken-late : s.reader.zero ≡ true → byteTaken b s ≡ changed (lateTurn s.reader) s
-  unfolding byteTaken
-  taken-late h = rw h
+  pub taken_late : s.reader.zero ≡ true → byte_taken b s ≡ changed (late_turn s.reader) s
+  unfolding byte_taken
+  taken_late h = rw h
 
-  pub taken-newline : s.reader.zero ≡ false → b ≡ newline → byteTaken b s ≡ lineEnded s
-  unfolding byteTaken
-  taken-newline h e = rw (h, eq-eqb b newline e)
+  pub taken_newline : s.reader.zero ≡ false → b ≡ newline → byte_taken b s ≡ line_ended s
+  unfolding byte_taken
+  taken_newline h e = rw (h, eq-eqb b newline e)
 
-  pub taken-other : s.reader.zero ≡ false → (b ≡ newline → ⊥) → byteTaken b s ≡ withByte b s
-  unfolding byteTaken
-  taken-other h e = rw (h, ne_eqb b newline e)
+  pub taken_other : s.reader.zero ≡ false → (b ≡ newline → ⊥) → byte_taken b s ≡ with_byte b s
+  unfolding byte_taken
+  taken_other h e = rw (h, ne_eqb b newline e)
 
-  pub step-decided : isDecided s.reader ≡ true → step b s ≡ s
+  pub step_decided : is_decided s.reader ≡ true → step b s ≡ s
   unfolding step
-  step-decided h = rw h
+  step_decided h = rw h
 
-  pub step-taken : isDecided s.reader ≡ false → step b s ≡ byteTaken b s
+  pub step_taken : is_decided s.reader ≡ false → step b s ≡ byte_taken b s
   unfolding step
-  step-taken h = rw h
+  step_taken h = rw h
 
 -- the end of a line
 module _ (s : State) where
-  pub names-good : same (so_far s) lineNames ≡ true → namesEnded s ≡ changed (accept s.reader 0 false) s
-  unfolding namesEnded
-  names-good h = rw h
+  pub names_good : same (so_far s) line_names ≡ true → names_ended s ≡ changed (accept s.reader 0 false) s
+  unfolding names_ended
+  names_good h = rw h
 
-  pub names-wrong : same (so_far s) lineNames ≡ false → namesEnded s ≡ changed (turn Form s.reader) s
-  unfolding namesEnded
-  names-wrong h = rw h
+  pub names_wrong : same (so_far s) line_names ≡ false → names_ended s ≡ changed (turn Form s.reader) s
+  unfolding names_ended
+  names_wrong h = rw h
 
-  pub line-names : s.reader.lines ≡ 0 → lineEnded s ≡ namesEnded s
-  unfolding lineEnded
-  line-names h = rw (eq-eqb s.reader.lines 0 h)
+  pub line_names_lem : s.reader.lines ≡ 0 → line_ended s ≡ names_ended s
+  unfolding line_ended
+  line_names_lem h = rw (eq-eqb s.reader.lines 0 h)
 
-  pub line-said : (s.reader.lines ≡ 0 → ⊥) → (x : Line) → line_of (so_far s) ≡ x → lineEnded s ≡ said x s
-  unfolding lineEnded
-  line-said h x e = rw (ne_eqb s.reader.lines 0 h, e)
+  pub line_said : (s.reader.lines ≡ 0 → ⊥) → (x : Line) → line_of (so_far s) ≡ x → line_ended s ≡ said x s
+  unfolding line_ended
+  line_said h x e = rw (ne_eqb s.reader.lines 0 h, e)
 
 module _ (a w : ℕ) (s : State) where
-  pub word-falls : a < s.reader.end → wordEnded a w s ≡ changed (turn Order s.reader) s
-  unfolding wordEnded
-  word-falls h = rw (lt-ltb a s.reader.end h)
+  pub word_falls : a < s.reader.end → word_ended a w s ≡ changed (turn Order s.reader) s
+  unfolding word_ended
+  word_falls h = rw (lt-ltb a s.reader.end h)
 
-  pub word-unaligned : s.reader.end ≤ a → (a % 4 ≡ 0 → ⊥) → wordEnded a w s ≡ changed (turn Order s.reader) s
-  unfolding wordEnded
-  word-unaligned h k = rw (le-ltb a s.reader.end h, ne_eqb (a % 4) 0 k)
+  pub word_unaligned : s.reader.end ≤ a → (a % 4 ≡ 0 → ⊥) → word_ended a w s ≡ changed (turn Order s.reader) s
+  unfolding word_ended
+  word_unaligned h k = rw (le-ltb a s.reader.end h, ne_eqb (a % 4) 0 k)
 
-  pub word_good : s.reader.end ≤ a → a % 4 ≡ 0 → wordEnded a w s ≡ record { reader = accept s.reader (a + 4) (eqb w 0); line = s.line; image = writtenAt Four s.image a w }
-  unfolding wordEnded
+  pub word_good : s.reader.end ≤ a → a % 4 ≡ 0 → word_ended a w s ≡ record { reader = accept s.reader (a + 4) (eqb w 0); line = s.line; image = written_at Four s.image a w }
+  unfolding word_ended
   word_good h k = rw (le-ltb a s.reader.end h, eq-eqb (a % 4) 0 k)
 
 -- ── A part of the input ──
-pub feed-turn : (l : List ℕ) (i : ℕ) (s : State) → i < length l → feed (drop i l) s ≡ feed (drop (i + 1) l) (step (get_or l i 0) s)
+pub feed_turn : (l : List ℕ) (i : ℕ) (s : State) → i < length l → feed (drop i l) s ≡ feed (drop (i + 1) l) (step (get_or l i 0) s)
 unfolding feed
-feed-turn l i s h = ap (λ (k : List ℕ). feed k s) (drop-cons l i 0 h) ∙ ap (λ (n : ℕ). feed (drop n l) (step (get_or l i 0) s)) (let e : suc i ≡ i + 1 = omega arith in e)
+feed_turn l i s h = ap (λ (k : List ℕ). feed k s) (drop-cons l i 0 h) ∙ ap (λ (n : ℕ). feed (drop n l) (step (get_or l i 0) s)) (let e : suc i ≡ i + 1 = omega arith in e)
 
-pub feed-end : (l : List ℕ) (i : ℕ) (s : State) → length l ≤ i → feed (drop i l) s ≡ s
+pub feed_end : (l : List ℕ) (i : ℕ) (s : State) → length l ≤ i → feed (drop i l) s ≡ s
 unfolding feed
-feed-end l i s h = ap (λ (k : List ℕ). feed k s) (drop_of_length-le l h)
+feed_end l i s h = ap (λ (k : List ℕ). feed k s) (drop_of_length-le l h)
 
 -- ── Clearing ──
 pub cleared : (d : List ℕ) (i : ℕ) → i < length d → set (paste d 0 (replicate (length d) 0) i) i 0 ≡ paste d 0 (replicate (length d) 0) (i + 1)
@@ -103,41 +103,41 @@ cleared d i h =
     ∙ paste-suc d 0 z i 0 (omega arith) (omega (arith, many))
     ∙ ap (paste d 0 z) (let e : suc i ≡ i + 1 = omega arith in e)
 
-pub all-cleared : (d : List ℕ) (i : ℕ) → length d ≤ i → i ≤ length d → paste d 0 (replicate (length d) 0) i ≡ replicate (length d) 0
-all-cleared d i h k =
+pub all_cleared : (d : List ℕ) (i : ℕ) → length d ≤ i → i ≤ length d → paste d 0 (replicate (length d) 0) i ≡ replicate (length d) 0
+all_cleared d i h k =
     let z : List ℕ = replicate (length d) 0 in
     let many : length z ≡ length d = length-replicate (length d) 0 in
     ap₂ (λ (x y : List ℕ). x ++ y) (take_all i z (omega (arith, many))) (drop_of_length-le d {i = 0 + i} (omega arith)) ∙ append-nil z
 
 -- ── The end of the input ──
 module _ (r : Reader) (m : List ℕ) where
-  pub last-good : complete r ≡ true → lengthFits (length m) r.end ≡ true → lastTest r m ≡ gives (take r.end m)
-  unfolding lastTest
-  last-good h k = rw (h, k)
+  pub last_good : complete r ≡ true → length_fits (length m) r.end ≡ true → last_test r m ≡ gives (take r.end m)
+  unfolding last_test
+  last_good h k = rw (h, k)
 
-  pub last-length : complete r ≡ true → lengthFits (length m) r.end ≡ false → lastTest r m ≡ refusal 0 19
-  unfolding lastTest
-  last-length h k = rw (h, k)
+  pub last_length : complete r ≡ true → length_fits (length m) r.end ≡ false → last_test r m ≡ refusal 0 19
+  unfolding last_test
+  last_length h k = rw (h, k)
 
-  pub last-open : complete r ≡ false → lastTest r m ≡ refusal (lineAfter r.lines) 18
-  unfolding lastTest
-  last-open h = rw h
+  pub last_open : complete r ≡ false → last_test r m ≡ refusal (line_after r.lines) 18
+  unfolding last_test
+  last_open h = rw h
 
-  pub finished-short : length m < 18 → finished r m ≡ record { told = ShortBuffer; image = m }
+  pub finished_short : length m < 18 → finished r m ≡ record { told = ShortBuffer; image = m }
   unfolding finished
-  finished-short h = rw (lt-ltb (length m) 18 h)
+  finished_short h = rw (lt-ltb (length m) 18 h)
 
-  pub finished-good : 18 ≤ length m → (v : Verdict) → r.verdict ≡ v → finished r m ≡ endCall (byVerdict v r m) m
+  pub finished_good : 18 ≤ length m → (v : Verdict) → r.verdict ≡ v → finished r m ≡ end_call (by_verdict v r m) m
   unfolding finished
-  finished-good h v e = ap (λ (t : Bool). cond t (record { told = ShortBuffer; image = m }) (endCall (ending r m) m)) (le-ltb (length m) 18 h) ∙ ap (λ (x : Verdict). endCall (byVerdict x r m) m) e
+  finished_good h v e = ap (λ (t : Bool). cond t (record { told = ShortBuffer; image = m }) (end_call (ending r m) m)) (le-ltb (length m) 18 h) ∙ ap (λ (x : Verdict). end_call (by_verdict x r m) m) e
 
-  pub file-wrong : (length m ≡ imageLimit → ⊥) → finishedFile r m ≡ record { told = WrongBuffer; image = m }
-  unfolding finishedFile
-  file-wrong h = rw (ne_eqb (length m) imageLimit h)
+  pub file_wrong : (length m ≡ image_limit → ⊥) → finished_file r m ≡ record { told = WrongBuffer; image = m }
+  unfolding finished_file
+  file_wrong h = rw (ne_eqb (length m) image_limit h)
 
-  pub file-good : length m ≡ imageLimit → finishedFile r m ≡ finished r m
-  unfolding finishedFile
-  file-good h = rw (eq-eqb (length m) imageLimit h)
+  pub file_good : length m ≡ image_limit → finished_file r m ≡ finished r m
+  unfolding finished_file
+  file_good h = rw (eq-eqb (length m) image_limit h)
 
 -- what a call gives, from an equation with its definition
 pub by_call : (x : Told) (o : List ℕ) (c d : EndCall) → d ≡ c → (x ≡ c.told) × (o ≡ c.image) → (x ≡ d.told) × (o ≡ d.image)

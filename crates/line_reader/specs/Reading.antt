@@ -6,12 +6,12 @@ use Rattle.text.specs.Split.{same}
 use Rattle.text.specs.Put.{over}
 use Rattle.names.specs.Names.{newline}
 use Rattle.model.specs.declared.Size.TheVariants.{Four}
-use Rattle.model.specs.step.Memory.{writtenAt}
+use Rattle.model.specs.step.Memory.{written_at}
 use Rattle.lines.specs.declared.Line.{Line}
 use Rattle.lines.specs.declared.Line.TheVariants.{At, Misshapen}
-use Rattle.lines.specs.Form.{lineNames, line_of, pairText, lineMost, pairRoom}
-use Rattle.lines.specs.Ways.{Converted, gives, refusal, lengthFits, image_of, output}
-use Rattle.lines.specs.Settings.{imageLimit, fileImage}
+use Rattle.lines.specs.Form.{line_names, line_of, pair_text, line_most, pair_room}
+use Rattle.lines.specs.Ways.{Converted, gives, refusal, length_fits, image_of, output}
+use Rattle.lines.specs.Settings.{image_limit, file_image}
 use Rattle.line_reader.specs.declared.Verdict.{Verdict}
 use Rattle.line_reader.specs.declared.Verdict.TheVariants.{Good, Form, Order}
 use Rattle.line_reader.specs.declared.Reader.{Reader}
@@ -34,23 +34,23 @@ begun d limit = record { reader = fresh; line = d; image = replicate limit 0 }
 
 -- ── A line ──
 -- the line behind line n; there is none behind the last that has 32 bits, which no input reaches, as addresses rise
-abbrev pub lineLimit : ℕ
-lineLimit = 4294967295
+abbrev pub line_limit : ℕ
+line_limit = 4294967295
 
-unfoldable pub lineAfter : ℕ → ℕ
-lineAfter n = cond (ltb n lineLimit) (n + 1) n
+unfoldable pub line_after : ℕ → ℕ
+line_after n = cond (ltb n line_limit) (n + 1) n
 
 -- the line being read is turned back
 abbrev pub turn : Verdict → Reader → Reader
-turn v r = record { verdict = v; lines = lineAfter r.lines; count = r.count; end = r.end; zero = r.zero }
+turn v r = record { verdict = v; lines = line_after r.lines; count = r.count; end = r.end; zero = r.zero }
 
 -- the line before it is
-abbrev pub lateTurn : Reader → Reader
-lateTurn r = record { verdict = Order; lines = r.lines; count = r.count; end = r.end; zero = r.zero }
+abbrev pub late_turn : Reader → Reader
+late_turn r = record { verdict = Order; lines = r.lines; count = r.count; end = r.end; zero = r.zero }
 
 -- the line being read is accepted
 abbrev pub accept : Reader → ℕ → Bool → Reader
-accept r end zero = record { verdict = Good; lines = lineAfter r.lines; count = 0; end = end; zero = zero }
+accept r end zero = record { verdict = Good; lines = line_after r.lines; count = 0; end = end; zero = zero }
 
 -- the reader alone changes
 abbrev pub changed : Reader → State → State
@@ -61,38 +61,38 @@ abbrev pub so_far : State → List ℕ
 so_far s = take s.reader.count s.line
 
 -- a byte more of it; a line that its buffer cannot hold is none
-abbrev pub oneMore : Reader → Reader
-oneMore r = record { verdict = Good; lines = r.lines; count = r.count + 1; end = r.end; zero = r.zero }
+abbrev pub one_more : Reader → Reader
+one_more r = record { verdict = Good; lines = r.lines; count = r.count + 1; end = r.end; zero = r.zero }
 
-unfoldable pub withByte : ℕ → State → State
-withByte b s =
+unfoldable pub with_byte : ℕ → State → State
+with_byte b s =
     cond (ltb s.reader.count (length s.line))
-    (record { reader = oneMore s.reader; line = set s.line s.reader.count b; image = s.image })
+    (record { reader = one_more s.reader; line = set s.line s.reader.count b; image = s.image })
     (changed (turn Form s.reader) s)
 
 -- ── The end of a line ──
-unfoldable pub namesEnded : State → State
-namesEnded s = cond (same (so_far s) lineNames) (changed (accept s.reader 0 false) s) (changed (turn Form s.reader) s)
+unfoldable pub names_ended : State → State
+names_ended s = cond (same (so_far s) line_names) (changed (accept s.reader 0 false) s) (changed (turn Form s.reader) s)
 
 -- the word w at address a
-unfoldable pub wordEnded : ℕ → ℕ → State → State
-wordEnded a w s =
+unfoldable pub word_ended : ℕ → ℕ → State → State
+word_ended a w s =
     cond (ltb a s.reader.end) (changed (turn Order s.reader) s)
-    (cond (eqb (a % 4) 0) (record { reader = accept s.reader (a + 4) (eqb w 0); line = s.line; image = writtenAt Four s.image a w })
+    (cond (eqb (a % 4) 0) (record { reader = accept s.reader (a + 4) (eqb w 0); line = s.line; image = written_at Four s.image a w })
     (changed (turn Order s.reader) s))
 
 abbrev pub said : Line → State → State
-said (At a w) s = wordEnded a w s
+said (At a w) s = word_ended a w s
 said Misshapen s = changed (turn Form s.reader) s
 
 -- the names are line 1: no line has ended before it
-unfoldable pub lineEnded : State → State
-lineEnded s = cond (eqb s.reader.lines 0) (namesEnded s) (said (line_of (so_far s)) s)
+unfoldable pub line_ended : State → State
+line_ended s = cond (eqb s.reader.lines 0) (names_ended s) (said (line_of (so_far s)) s)
 
 -- ── A byte ──
 -- behind a zero word no byte may follow
-unfoldable pub byteTaken : ℕ → State → State
-byteTaken b s = cond s.reader.zero (changed (lateTurn s.reader) s) (cond (eqb b newline) (lineEnded s) (withByte b s))
+unfoldable pub byte_taken : ℕ → State → State
+byte_taken b s = cond s.reader.zero (changed (late_turn s.reader) s) (cond (eqb b newline) (line_ended s) (with_byte b s))
 
 -- whether a line was turned back
 abbrev pub decides : Verdict → Bool
@@ -100,11 +100,11 @@ decides Good = false
 decides Form = true
 decides Order = true
 
-abbrev pub isDecided : Reader → Bool
-isDecided r = decides r.verdict
+abbrev pub is_decided : Reader → Bool
+is_decided r = decides r.verdict
 
 unfoldable pub step : ℕ → State → State
-step b s = cond (isDecided s.reader) s (byteTaken b s)
+step b s = cond (is_decided s.reader) s (byte_taken b s)
 
 -- the bytes of a part of the input, one after the other
 unfoldable pub feed : List ℕ → State → State
@@ -117,45 +117,45 @@ unfoldable pub complete : Reader → Bool
 complete r = cond (eqb r.count 0) (ltb 0 r.lines) false
 
 -- no line was turned back: the length is tested last; the limit is the length of the image's buffer
-unfoldable pub lastTest : Reader → List ℕ → Converted
-lastTest r m = cond (complete r) (cond (lengthFits (length m) r.end) (gives (take r.end m)) (refusal 0 19)) (refusal (lineAfter r.lines) 18)
+unfoldable pub last_test : Reader → List ℕ → Converted
+last_test r m = cond (complete r) (cond (length_fits (length m) r.end) (gives (take r.end m)) (refusal 0 19)) (refusal (line_after r.lines) 18)
 
 -- the number of the rules for a verdict: none where nothing is known against the lines
-abbrev pub verdictNumber : Verdict → Option ℕ
-verdictNumber Good = none
-verdictNumber Form = some 18
-verdictNumber Order = some 19
+abbrev pub verdict_number : Verdict → Option ℕ
+verdict_number Good = none
+verdict_number Form = some 18
+verdict_number Order = some 19
 
-abbrev pub byNumber : Option ℕ → Reader → List ℕ → Converted
-byNumber none r m = lastTest r m
-byNumber (some n) r m = refusal r.lines n
+abbrev pub by_number : Option ℕ → Reader → List ℕ → Converted
+by_number none r m = last_test r m
+by_number (some n) r m = refusal r.lines n
 
-abbrev pub byVerdict : Verdict → Reader → List ℕ → Converted
-byVerdict v r m = byNumber (verdictNumber v) r m
+abbrev pub by_verdict : Verdict → Reader → List ℕ → Converted
+by_verdict v r m = by_number (verdict_number v) r m
 
 -- what the end of the input gives
 abbrev pub ending : Reader → List ℕ → Converted
-ending r m = byVerdict r.verdict r m
+ending r m = by_verdict r.verdict r m
 
 -- what a call at the end of the input answers, and what it leaves in the image's buffer
 pub record EndCall : Type 0 where
   pub told : Told
   pub image : List ℕ
 
-abbrev pub refusalCall : ℕ → ℕ → List ℕ → EndCall
-refusalCall n r d = record { told = Output (length (pairText n r)); image = over d 0 (pairText n r) }
+abbrev pub refusal_call : ℕ → ℕ → List ℕ → EndCall
+refusal_call n r d = record { told = Output (length (pair_text n r)); image = over d 0 (pair_text n r) }
 
 -- the bytes of the image stand in the buffer; a refusal is put in front of what it holds
-abbrev pub endCall : Converted → List ℕ → EndCall
-endCall (gives m) d = record { told = Output (length m); image = d }
-endCall (refusal n r) d = refusalCall n r d
+abbrev pub end_call : Converted → List ℕ → EndCall
+end_call (gives m) d = record { told = Output (length m); image = d }
+end_call (refusal n r) d = refusal_call n r d
 
 unfoldable pub finished : Reader → List ℕ → EndCall
-finished r m = cond (ltb (length m) pairRoom) (record { told = ShortBuffer; image = m }) (endCall (ending r m) m)
+finished r m = cond (ltb (length m) pair_room) (record { told = ShortBuffer; image = m }) (end_call (ending r m) m)
 
 -- the same for the programs: the length of the image's buffer is the limit, so one of another length has an answer of its own and stays as it is
-unfoldable pub finishedFile : Reader → List ℕ → EndCall
-finishedFile r m = cond (eqb (length m) imageLimit) (finished r m) (record { told = WrongBuffer; image = m })
+unfoldable pub finished_file : Reader → List ℕ → EndCall
+finished_file r m = cond (eqb (length m) image_limit) (finished r m) (record { told = WrongBuffer; image = m })
 
 -- ── What is proved ──
 -- the end of an input that is fed from the beginning, in a buffer for the line and an image of so many bytes
@@ -163,21 +163,21 @@ abbrev pub end_of : List ℕ → ℕ → List ℕ → EndCall
 end_of d limit l = let s = feed l (begun d limit) in finished s.reader s.image
 
 -- the same for the programs
-abbrev pub endOfFile : List ℕ → List ℕ → EndCall
-endOfFile d l = let s = feed l (begun d imageLimit) in finishedFile s.reader s.image
+abbrev pub end_of_file : List ℕ → List ℕ → EndCall
+end_of_file d l = let s = feed l (begun d image_limit) in finished_file s.reader s.image
 
 -- For every limit, and every buffer that can hold a line.
 pub record Streamed : Type 0 where
   -- part by part is the whole
   pub parts : (xs ys : List ℕ) (s : State) → feed (xs ++ ys) s ≡ feed ys (feed xs s)
   -- once a line is turned back, no byte changes anything
-  pub decided : (l : List ℕ) (s : State) → isDecided s.reader ≡ true → feed l s ≡ s
+  pub decided : (l : List ℕ) (s : State) → is_decided s.reader ≡ true → feed l s ≡ s
   -- the end of the whole input gives the image of the lines, or their refusal
-  pub whole : (d : List ℕ) (limit : ℕ) (l : List ℕ) → lineMost ≤ length d → let s = feed l (begun d limit) in ending s.reader s.image ≡ image_of limit l
+  pub whole : (d : List ℕ) (limit : ℕ) (l : List ℕ) → line_most ≤ length d → let s = feed l (begun d limit) in ending s.reader s.image ≡ image_of limit l
   -- and the front of the image's buffer is the whole output, where a refusal fits
-  pub front : (d : List ℕ) (limit : ℕ) (l : List ℕ) → lineMost ≤ length d → pairRoom ≤ limit
+  pub front : (d : List ℕ) (limit : ℕ) (l : List ℕ) → line_most ≤ length d → pair_room ≤ limit
       → ((end_of d limit l).told ≡ Output (length (output (image_of limit l)))) × (take (length (output (image_of limit l))) (end_of d limit l).image ≡ output (image_of limit l))
 
 -- Under the limit of the programs, for every buffer that can hold a line: the front of the image's buffer is the whole output.
 pub record FileStreamed : Type 0 where
-  pub front : (d l : List ℕ) → lineMost ≤ length d → let s = output (fileImage l) in ((endOfFile d l).told ≡ Output (length s)) × (take (length s) (endOfFile d l).image ≡ s)
+  pub front : (d l : List ℕ) → line_most ≤ length d → let s = output (file_image l) in ((end_of_file d l).told ≡ Output (length s)) × (take (length s) (end_of_file d l).image ≡ s)

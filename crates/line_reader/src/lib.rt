@@ -2,7 +2,7 @@
 // image. A line is judged when it ends; once one is turned back, no byte changes anything.
 ghost use Rattle.std.specs.Prelude.{◌≡◌, List, ℕ, ◌≤◌, length, take, replicate};
 ghost use Rattle.lines.specs.Form.{pair_of, line_of};
-ghost use Rattle.line_reader.specs.Reading.{fresh, lineAfter, turn, lateTurn, accept, withByte, namesEnded, wordEnded, lineEnded, byteTaken, step as Reading-step, feed as Reading·feed, isDecided, complete, lastTest, refusalCall, endCall, finished, finishedFile};
+ghost use Rattle.line_reader.specs.Reading.{fresh, line_after, turn, late_turn, accept, with_byte, names_ended, word_ended, line_ended, byte_taken, step as Reading-step, feed as Reading·feed, is_decided, complete, last_test, refusal_call, end_call, finished, finished_file};
 
 use lines::Line;
 use model::Size;
@@ -56,9 +56,9 @@ pub fn begin(image: &mut [u8]) -> Reader
 
 // The number of the line behind line n.
 fn line_after(n: u32) -> u32
-    ensures { result ≡ lineAfter n }
+    ensures { result ≡ line_after n }
 {
-    if n < 4294967295 { // lineLimit
+    if n < 4294967295 { // line_limit
         return n + 1;
     }
     n
@@ -79,7 +79,7 @@ fn turned(r: Reader, verdict: Verdict) -> Reader
 
 // The last line, whose word is zero, is turned back.
 fn turned_late(r: Reader) -> Reader
-    ensures { result ≡ lateTurn r }
+    ensures { result ≡ late_turn r }
 {
     Reader {
         verdict: Verdict::Order,
@@ -105,7 +105,7 @@ fn accepted(r: Reader, end: usize, zero: bool) -> Reader
 
 // A byte more of the line being read. A line that its buffer cannot hold is none.
 fn with_byte(r: Reader, b: u8, line: &mut [u8]) -> Reader
-    ensures { (m : List ℕ) → record { reader = result; line = line.new; image = m } ≡ withByte b (record { reader = r; line = line.old; image = m }) }
+    ensures { (m : List ℕ) → record { reader = result; line = line.new; image = m } ≡ with_byte b (record { reader = r; line = line.old; image = m }) }
 {
     let at = r.count;
     if at < line.len() {
@@ -155,7 +155,7 @@ fn read_line(line: &[u8]) -> Line
 
 // The names line has ended.
 fn end_names(r: Reader, line: &[u8]) -> Reader
-    ensures { (m : List ℕ) → record { reader = result; line = line.now; image = m } ≡ namesEnded (record { reader = r; line = line.now; image = m }) }
+    ensures { (m : List ℕ) → record { reader = result; line = line.now; image = m } ≡ names_ended (record { reader = r; line = line.now; image = m }) }
 {
     if text::same(held(line, r.count), b"at,word") {
         return accepted(r, 0, false);
@@ -165,7 +165,7 @@ fn end_names(r: Reader, line: &[u8]) -> Reader
 
 // A line that says a word has ended: the word is stored, if it lies in the image.
 fn end_word(r: Reader, image: &mut [u8], a: u32, w: u32) -> Reader
-    ensures { (d : List ℕ) → record { reader = result; line = d; image = image.new } ≡ wordEnded a w (record { reader = r; line = d; image = image.old }) }
+    ensures { (d : List ℕ) → record { reader = result; line = d; image = image.new } ≡ word_ended a w (record { reader = r; line = d; image = image.old }) }
 {
     let at = a as usize;
     if at < r.end {
@@ -180,7 +180,7 @@ fn end_word(r: Reader, image: &mut [u8], a: u32, w: u32) -> Reader
 
 // The line being read has ended.
 fn end_line(r: Reader, line: &[u8], image: &mut [u8]) -> Reader
-    ensures { record { reader = result; line = line.now; image = image.new } ≡ lineEnded (record { reader = r; line = line.now; image = image.old }) }
+    ensures { record { reader = result; line = line.now; image = image.new } ≡ line_ended (record { reader = r; line = line.now; image = image.old }) }
 {
     if r.lines == 0 {
         return end_names(r, line);
@@ -193,7 +193,7 @@ fn end_line(r: Reader, line: &[u8], image: &mut [u8]) -> Reader
 
 // A byte, where no line was turned back.
 fn take_byte(r: Reader, b: u8, line: &mut [u8], image: &mut [u8]) -> Reader
-    ensures { record { reader = result; line = line.new; image = image.new } ≡ byteTaken b (record { reader = r; line = line.old; image = image.old }) }
+    ensures { record { reader = result; line = line.new; image = image.new } ≡ byte_taken b (record { reader = r; line = line.old; image = image.old }) }
 {
     if r.zero {
         return turned_late(r);
@@ -206,7 +206,7 @@ fn take_byte(r: Reader, b: u8, line: &mut [u8], image: &mut [u8]) -> Reader
 
 // Whether a line was turned back: then no byte changes anything.
 pub fn is_decided(r: Reader) -> bool
-    ensures { result ≡ isDecided r }
+    ensures { result ≡ is_decided r }
 {
     let verdict = r.verdict;
     match verdict {
@@ -252,7 +252,7 @@ fn is_complete(r: Reader) -> bool
 // A refusal, put in front of what the buffer holds.
 fn refuse(image: &mut [u8], line: u32, number: u32) -> Told
     requires { 18 ≤ length image.old }
-    ensures { (result ≡ (refusalCall line number image.old).told) × (image.new ≡ (refusalCall line number image.old).image) }
+    ensures { (result ≡ (refusal_call line number image.old).told) × (image.new ≡ (refusal_call line number image.old).image) }
 {
     Told::Output(line_writer::put_pair(image, 0, line, number))
 }
@@ -260,7 +260,7 @@ fn refuse(image: &mut [u8], line: u32, number: u32) -> Told
 // The end of an input of which no line was turned back.
 fn last_test(r: Reader, image: &mut [u8]) -> Told
     requires { 18 ≤ length image.old }
-    ensures { (result ≡ (endCall (lastTest r image.old) image.old).told) × (image.new ≡ (endCall (lastTest r image.old) image.old).image) }
+    ensures { (result ≡ (end_call (last_test r image.old) image.old).told) × (image.new ≡ (end_call (last_test r image.old) image.old).image) }
 {
     if is_complete(r) {
         if line_writer::length_fits(image.len(), r.end) {
@@ -275,7 +275,7 @@ fn last_test(r: Reader, image: &mut [u8]) -> Told
 pub fn finish(r: Reader, image: &mut [u8]) -> Told
     ensures { (result ≡ (finished r image.old).told) × (image.new ≡ (finished r image.old).image) }
 {
-    if image.len() < 18 { // pairRoom
+    if image.len() < 18 { // pair_room
         return Told::ShortBuffer;
     }
     let verdict = r.verdict;
@@ -288,9 +288,9 @@ pub fn finish(r: Reader, image: &mut [u8]) -> Told
 
 // The same for the programs: the image's buffer has 32,768 bytes, and one of another length stays as it is.
 pub fn finish_file(r: Reader, image: &mut [u8]) -> Told
-    ensures { (result ≡ (finishedFile r image.old).told) × (image.new ≡ (finishedFile r image.old).image) }
+    ensures { (result ≡ (finished_file r image.old).told) × (image.new ≡ (finished_file r image.old).image) }
 {
-    if image.len() != 32768 { // imageLimit
+    if image.len() != 32768 { // image_limit
         return Told::WrongBuffer;
     }
     finish(r, image)

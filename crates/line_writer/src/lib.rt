@@ -1,11 +1,11 @@
 // The lines of an image, put into a lent buffer; and a refusal.
 ghost use Rattle.std.specs.Prelude.{◌≡◌, ◌+◌, ◌*◌, ◌/◌, ◌≤◌, length};
-ghost use Rattle.text.specs.Put.{over, wrote, placeAfter};
-ghost use Rattle.lines.specs.Form.{pairText, pairRoom};
-ghost use Rattle.lines.specs.Words.{word_of, hasLine, wordsFrom};
-ghost use Rattle.lines.specs.Ways.{lengthFits, linesText, text_of};
-ghost use Rattle.lines.specs.Settings.{imageLimit};
-ghost use Rattle.line_writer.specs.Call.{placeAfterWord, wroteWord, called, roomFor as Call·roomFor};
+ghost use Rattle.text.specs.Put.{over, wrote, place_after};
+ghost use Rattle.lines.specs.Form.{pair_text, pair_room};
+ghost use Rattle.lines.specs.Words.{word_of, has_line, words_from};
+ghost use Rattle.lines.specs.Ways.{length_fits, lines_text, text_of};
+ghost use Rattle.lines.specs.Settings.{image_limit};
+ghost use Rattle.line_writer.specs.Call.{place_after_word, wrote_word, called, room_for as Call·roomFor};
 
 // What a call answers: how long the text is, or why there is none.
 #[derive(Drop)]
@@ -17,7 +17,7 @@ pub enum Told {
 
 // Whether an image may have n bytes where none may have more than `limit`.
 pub fn length_fits(limit: usize, n: usize) -> bool
-    ensures { result ≡ lengthFits limit n }
+    ensures { result ≡ length_fits limit n }
 {
     if limits::memory_fits(n) {
         return n <= limit;
@@ -28,7 +28,7 @@ pub fn length_fits(limit: usize, n: usize) -> bool
 // Two numbers as a line, where there is room for it.
 fn copy_pair(out: &mut [u8], at: usize, a: u32, b: u32) -> usize
     requires { at + 18 ≤ length out.old }
-    ensures { (result ≡ at + length (pairText a b)) × (out.new ≡ over out.old at (pairText a b)) }
+    ensures { (result ≡ at + length (pair_text a b)) × (out.new ≡ over out.old at (pair_text a b)) }
 {
     let p1 = text::put_hex(out, at, a);
     let p2 = text::put(out, p1, b",");
@@ -38,9 +38,9 @@ fn copy_pair(out: &mut [u8], at: usize, a: u32, b: u32) -> usize
 
 // Puts two numbers as a line: an address and a word, or the line and the number of a refusal.
 pub fn put_pair(out: &mut [u8], at: usize, a: u32, b: u32) -> usize
-    ensures { (result ≡ placeAfter pairRoom out.old at (pairText a b)) × (out.new ≡ wrote pairRoom out.old at (pairText a b)) }
+    ensures { (result ≡ place_after pair_room out.old at (pair_text a b)) × (out.new ≡ wrote pair_room out.old at (pair_text a b)) }
 {
-    if text::has_room(out, at, 18) { // pairRoom
+    if text::has_room(out, at, 18) { // pair_room
         return copy_pair(out, at, a, b);
     }
     at
@@ -48,7 +48,7 @@ pub fn put_pair(out: &mut [u8], at: usize, a: u32, b: u32) -> usize
 
 // Whether a word in front of the rest of an image has a line.
 fn has_line(w: u32, rest: &[u8]) -> bool
-    ensures { result ≡ hasLine w rest.now }
+    ensures { result ≡ has_line w rest.now }
 {
     if w == 0 {
         return rest.len() == 0;
@@ -58,7 +58,7 @@ fn has_line(w: u32, rest: &[u8]) -> bool
 
 // Puts the line of a word in front of the rest of an image, if it has one.
 fn put_word(out: &mut [u8], place: usize, at: u32, w: u32, rest: &[u8]) -> usize
-    ensures { (result ≡ placeAfterWord out.old place at w rest.now) × (out.new ≡ wroteWord out.old place at w rest.now) }
+    ensures { (result ≡ place_after_word out.old place at w rest.now) × (out.new ≡ wrote_word out.old place at w rest.now) }
 {
     if has_line(w, rest) {
         return put_pair(out, place, at, w);
@@ -70,7 +70,7 @@ fn put_word(out: &mut [u8], place: usize, at: u32, w: u32, rest: &[u8]) -> usize
 fn put_words(image: &[u8], out: &mut [u8], start: usize) -> usize
     requires image_len_bound { length image.now ≤ 16777216 }
     requires image_in_bounds { start + 18 * (length image.now / 4) ≤ length out.old }
-    ensures { (result ≡ start + length (linesText (wordsFrom 0 image.now))) × (out.new ≡ over out.old start (linesText (wordsFrom 0 image.now))) }
+    ensures { (result ≡ start + length (lines_text (words_from 0 image.now))) × (out.new ≡ over out.old start (lines_text (words_from 0 image.now))) }
 {
     let mut at: usize = 0;
     let mut place = start;
@@ -86,7 +86,7 @@ fn put_words(image: &[u8], out: &mut [u8], start: usize) -> usize
 fn put_text(image: &[u8], out: &mut [u8]) -> usize
     requires image_len_bound { length image.now ≤ 16777216 }
     requires image_in_bounds { 18 + 18 * (length image.now / 4) ≤ length out.old }
-    ensures { (result ≡ length (text_of (wordsFrom 0 image.now))) × (out.new ≡ over out.old 0 (text_of (wordsFrom 0 image.now))) }
+    ensures { (result ≡ length (text_of (words_from 0 image.now))) × (out.new ≡ over out.old 0 (text_of (words_from 0 image.now))) }
 {
     let at = text::put(out, 0, b"at,word\n");
     put_words(image, out, at)
@@ -120,7 +120,7 @@ pub fn write_lines(limit: usize, image: &[u8], n: usize, out: &mut [u8]) -> Told
 
 // The same for the programs: an image file that has more than 32,768 bytes is refused.
 pub fn write_file_lines(image: &[u8], n: usize, out: &mut [u8]) -> Told
-    ensures { (result ≡ (called imageLimit image.now n out.old).told) × (out.new ≡ (called imageLimit image.now n out.old).out) }
+    ensures { (result ≡ (called image_limit image.now n out.old).told) × (out.new ≡ (called image_limit image.now n out.old).out) }
 {
-    write_lines(32768, image, n, out) // imageLimit
+    write_lines(32768, image, n, out) // image_limit
 }

@@ -1,7 +1,7 @@
 -- A line: the address of four bytes of an image and the word that they make, low byte first.
 use Rattle.std.specs.Prelude.{ℕ, List, [], ◌∷◌, ◌++◌}
 use Rattle.text.specs.Split.{until, past}
-use Rattle.text.specs.Hex.{value_of, hexOf}
+use Rattle.text.specs.Hex.{value_of, hex_of}
 use Rattle.text.specs.declared.Value.{Value}
 use Rattle.text.specs.declared.Value.TheVariants.{Number, Misspelled}
 use Rattle.names.specs.Names.{comma, newline}
@@ -9,8 +9,8 @@ use Rattle.lines.specs.declared.Line.{Line}
 use Rattle.lines.specs.declared.Line.TheVariants.{At, Misshapen}
 
 -- `at,word`, the names
-abbrev pub lineNames : List ℕ
-lineNames = 97 ∷ 116 ∷ 44 ∷ 119 ∷ 111 ∷ 114 ∷ 100 ∷ []
+abbrev pub line_names : List ℕ
+line_names = 97 ∷ 116 ∷ 44 ∷ 119 ∷ 111 ∷ 114 ∷ 100 ∷ []
 
 -- two values, each of them spelled as in a list
 abbrev pub pair_of : Value → Value → Line
@@ -23,12 +23,12 @@ unfoldable pub line_of : List ℕ → Line
 line_of l = pair_of (value_of (until comma l)) (value_of (past comma l))
 
 -- two numbers as a line
-unfoldable pub pairText : ℕ → ℕ → List ℕ
-pairText a b = hexOf a ++ (comma ∷ (hexOf b ++ (newline ∷ [])))
+unfoldable pub pair_text : ℕ → ℕ → List ℕ
+pair_text a b = hex_of a ++ (comma ∷ (hex_of b ++ (newline ∷ [])))
 
 -- how many bytes a line has at most, without its newline and with it
-abbrev pub lineMost : ℕ
-lineMost = 17
+abbrev pub line_most : ℕ
+line_most = 17
 
-abbrev pub pairRoom : ℕ
-pairRoom = 18
+abbrev pub pair_room : ℕ
+pair_room = 18

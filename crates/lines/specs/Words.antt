@@ -16,8 +16,8 @@ abbrev pub word_of : ℕ → ℕ → ℕ → ℕ → ℕ
 word_of a b c d = a + 256 * b + 65536 * (c + 256 * d)
 
 -- A word is nonzero, except that the last word of the image always has its line.
-unfoldable pub hasLine : ℕ → List ℕ → Bool
-hasLine w rest = cond (eqb w 0) (is_empty rest) true
+unfoldable pub has_line : ℕ → List ℕ → Bool
+has_line w rest = cond (eqb w 0) (is_empty rest) true
 
 -- a word in front of others, where it has a line
 abbrev pub kept : Bool → Word → List Word → List Word
@@ -25,12 +25,12 @@ kept true x xs = x ∷ xs
 kept false x xs = xs
 
 -- the words that have lines, of the bytes of an image from an address on
-unfoldable pub wordsFrom : ℕ → List ℕ → List Word
-wordsFrom at [] = []
-wordsFrom at (a ∷ []) = []
-wordsFrom at (a ∷ b ∷ []) = []
-wordsFrom at (a ∷ b ∷ c ∷ []) = []
-wordsFrom at (a ∷ b ∷ c ∷ d ∷ rest) = kept (hasLine (word_of a b c d) rest) (record { address = at; word = word_of a b c d }) (wordsFrom (at + 4) rest)
+unfoldable pub words_from : ℕ → List ℕ → List Word
+words_from at [] = []
+words_from at (a ∷ []) = []
+words_from at (a ∷ b ∷ []) = []
+words_from at (a ∷ b ∷ c ∷ []) = []
+words_from at (a ∷ b ∷ c ∷ d ∷ rest) = kept (has_line (word_of a b c d) rest) (record { address = at; word = word_of a b c d }) (words_from (at + 4) rest)
 
 -- ── From words to their image ──
 -- the four bytes of a word, low byte first, in front of others
@@ -38,11 +38,11 @@ abbrev pub bytes_of : ℕ → List ℕ → List ℕ
 bytes_of w rest = w % 256 ∷ w / 256 % 256 ∷ w / 65536 % 256 ∷ w / 16777216 % 256 ∷ rest
 
 -- the bytes of the image from an address on: zero but for the words, and the last word ends it
-unfoldable pub imageFrom : ℕ → List Word → List ℕ
-imageFrom at [] = []
-imageFrom at (x ∷ xs) = replicate (x.address - at) 0 ++ bytes_of x.word (imageFrom (x.address + 4) xs)
+unfoldable pub image_from : ℕ → List Word → List ℕ
+image_from at [] = []
+image_from at (x ∷ xs) = replicate (x.address - at) 0 ++ bytes_of x.word (image_from (x.address + 4) xs)
 
 -- where the image ends
-unfoldable pub endFrom : ℕ → List Word → ℕ
-endFrom at [] = at
-endFrom at (x ∷ xs) = endFrom (x.address + 4) xs
+unfoldable pub end_from : ℕ → List Word → ℕ
+end_from at [] = at
+end_from at (x ∷ xs) = end_from (x.address + 4) xs

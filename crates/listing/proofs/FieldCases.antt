@@ -7,18 +7,18 @@ use mathlib.Core.Option.{Option, some}
 use lib.ListN.{replicate}
 use Rattle.text.specs.Split.{has, until, past, same}
 use Rattle.text.specs.Hex.{digit, digits, number, lean, spelled, value_of}
-use Rattle.text.specs.Quoted.{quotedFrom, quoted}
+use Rattle.text.specs.Quoted.{quoted_from, quoted}
 use Rattle.names.specs.Names.{named_in}
 use Rattle.model.specs.declared.Kind.{Kind}
 use Rattle.model.specs.declared.Kind.TheVariants.{Read, Write, Root, Asid, Mode, All, Addr, Ctx, AddrCtx, Fetch, Domain}
 use Rattle.listing.specs.declared.Line.{Line}
 use Rattle.listing.specs.declared.Line.TheVariants.{Op}
-use Rattle.listing.specs.Line.{spare, zeros, op_of, judged, values_of, fieldA, fieldB, fieldC, fields_of, line_of}
-use Rattle.listing.specs.Whole.{lineNumber}
+use Rattle.listing.specs.Line.{spare, zeros, op_of, judged, values_of, field_a, field_b, field_c, fields_of, line_of}
+use Rattle.listing.specs.Whole.{line_number}
 
 -- an unused field that is not 0, the others 0: each operation, each of its unused fields
-abbrev pub unusedLines : List String
-unusedLines =
+abbrev pub unused_lines : List String
+unused_lines =
     "read,1000,4,1\n"
     ∷ "root,80,1,0\n" ∷ "root,80,0,1\n"
     ∷ "asid,1,1,0\n" ∷ "asid,1,0,1\n"
@@ -32,8 +32,8 @@ unusedLines =
     ∷ []
 
 -- each operation, with each of its used fields at once
-abbrev pub usedLines : List String
-usedLines =
+abbrev pub used_lines : List String
+used_lines =
     "read,1,2,0\n" ∷ "write,1,2,3\n" ∷ "root,1,0,0\n" ∷ "asid,1,0,0\n" ∷ "mode,1,0,0\n" ∷ "all,0,0,0\n" ∷ "addr,1,0,0\n" ∷ "ctx,1,0,0\n"
     ∷ "addrctx,1,2,0\n" ∷ "fetch,1,0,0\n" ∷ "domain,1,0,0\n" ∷ []
 
@@ -41,13 +41,13 @@ abbrev said : Kind → ℕ → ℕ → ℕ → Line
 said k a b c = Op (record { kind = k; a = a; b = b; c = c })
 
 -- all of the first are turned back by 6
-pub unused-cases : map (λ s. lineNumber (line_of (quoted s))) unusedLines ≡ replicate 19 (some 6)
-unfolding quotedFrom quoted has until past same digit digits number lean spelled value_of named_in spare zeros op_of judged values_of fieldA fieldB fieldC fields_of line_of
-unused-cases = refl
+pub unused_cases : map (λ s. line_number (line_of (quoted s))) unused_lines ≡ replicate 19 (some 6)
+unfolding quoted_from quoted has until past same digit digits number lean spelled value_of named_in spare zeros op_of judged values_of field_a field_b field_c fields_of line_of
+unused_cases = refl
 
 -- and the others say their operation and its fields
-pub used-cases : map (λ s. line_of (quoted s)) usedLines
+pub used_cases : map (λ s. line_of (quoted s)) used_lines
     ≡ said Read 1 2 0 ∷ said Write 1 2 3 ∷ said Root 1 0 0 ∷ said Asid 1 0 0 ∷ said Mode 1 0 0 ∷ said All 0 0 0 ∷ said Addr 1 0 0 ∷ said Ctx 1 0 0
     ∷ said AddrCtx 1 2 0 ∷ said Fetch 1 0 0 ∷ said Domain 1 0 0 ∷ []
-unfolding quotedFrom quoted has until past same digit digits number lean spelled value_of named_in spare zeros op_of judged values_of fieldA fieldB fieldC fields_of line_of
-used-cases = refl
+unfolding quoted_from quoted has until past same digit digits number lean spelled value_of named_in spare zeros op_of judged values_of field_a field_b field_c fields_of line_of
+used_cases = refl

@@ -1,10 +1,10 @@
 -- What a line of a list says, and how an operation is written as a line.
 use Rattle.std.specs.Prelude.{ℕ, ◌<◌, ◌≡◌, Bool, true, false, cond, List, [], ◌∷◌, ◌++◌, eqb, ltb}
 use Rattle.text.specs.Split.{has, until, past}
-use Rattle.text.specs.Hex.{value_of, hexOf}
+use Rattle.text.specs.Hex.{value_of, hex_of}
 use Rattle.text.specs.declared.Value.{Value}
 use Rattle.text.specs.declared.Value.TheVariants.{Number, Misspelled}
-use Rattle.model.specs.Limits.{wordLimit}
+use Rattle.model.specs.Limits.{word_limit}
 use Rattle.model.specs.declared.Kind.{Kind}
 use Rattle.model.specs.declared.Kind.TheVariants.{Read, Write, Root, Asid, Mode, All, Addr, Ctx, AddrCtx, Fetch, Domain}
 use Rattle.model.specs.declared.Operation.{Operation}
@@ -57,29 +57,29 @@ judged Nothing (Numbers a b c) = Refused Unknown
 judged (Known k) (Numbers a b c) = op_of k a b c
 
 -- 3: not four fields. The last field goes to the end, and has no comma
-unfoldable pub fieldC : Named → Value → Value → List ℕ → Line
-fieldC n a b l = cond (has comma l) (Refused Shape) (judged n (values_of a b (value_of l)))
+unfoldable pub field_c : Named → Value → Value → List ℕ → Line
+field_c n a b l = cond (has comma l) (Refused Shape) (judged n (values_of a b (value_of l)))
 
-unfoldable pub fieldB : Named → Value → List ℕ → Line
-fieldB n a l = cond (has comma l) (fieldC n a (value_of (until comma l)) (past comma l)) (Refused Shape)
+unfoldable pub field_b : Named → Value → List ℕ → Line
+field_b n a l = cond (has comma l) (field_c n a (value_of (until comma l)) (past comma l)) (Refused Shape)
 
-unfoldable pub fieldA : Named → List ℕ → Line
-fieldA n l = cond (has comma l) (fieldB n (value_of (until comma l)) (past comma l)) (Refused Shape)
+unfoldable pub field_a : Named → List ℕ → Line
+field_a n l = cond (has comma l) (field_b n (value_of (until comma l)) (past comma l)) (Refused Shape)
 
 unfoldable pub fields_of : List ℕ → Line
-fields_of l = cond (has comma l) (fieldA (named_of (until comma l)) (past comma l)) (Refused Shape)
+fields_of l = cond (has comma l) (field_a (named_of (until comma l)) (past comma l)) (Refused Shape)
 
 -- 3: no newline
 unfoldable pub line_of : List ℕ → Line
 line_of l = cond (has newline l) (fields_of (until newline l)) (Refused Shape)
 
 -- an operation written as a line
-unfoldable pub lineText : Operation → List ℕ
-lineText o = name o.kind ++ (comma ∷ (hexOf o.a ++ (comma ∷ (hexOf o.b ++ (comma ∷ (hexOf o.c ++ (newline ∷ [])))))))
+unfoldable pub line_text : Operation → List ℕ
+line_text o = name o.kind ++ (comma ∷ (hex_of o.a ++ (comma ∷ (hex_of o.b ++ (comma ∷ (hex_of o.c ++ (newline ∷ [])))))))
 
 -- an operation that has a line: fields of 32 bits, and 0 where they are unused
 pub record Valid (o : Operation) : Type 0 where
-  pub a-fits : o.a < wordLimit
-  pub b-fits : o.b < wordLimit
-  pub c-fits : o.c < wordLimit
+  pub a_fits : o.a < word_limit
+  pub b_fits : o.b < word_limit
+  pub c_fits : o.c < word_limit
   pub unused : zeros (used o.kind) o.a o.b o.c ≡ true

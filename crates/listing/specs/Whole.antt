@@ -8,32 +8,32 @@ use Rattle.listing.specs.declared.Line.TheVariants.{Op, Refused}
 use Rattle.listing.specs.declared.Reason.{Reason}
 use Rattle.listing.specs.declared.Reason.TheVariants.{TooLong, Names, Shape, Spelling, Unknown, Unused}
 use Rattle.names.specs.Names.{newline, names}
-use Rattle.listing.specs.Line.{line_of, lineText, Valid}
+use Rattle.listing.specs.Line.{line_of, line_text, Valid}
 
 -- the numbers of the rules for a list that is turned back
-abbrev pub listNumber : Reason → ℕ
-listNumber TooLong = 1
-listNumber Names = 2
-listNumber Shape = 3
-listNumber Spelling = 4
-listNumber Unknown = 5
-listNumber Unused = 6
+abbrev pub list_number : Reason → ℕ
+list_number TooLong = 1
+list_number Names = 2
+list_number Shape = 3
+list_number Spelling = 4
+list_number Unknown = 5
+list_number Unused = 6
 
 -- the number of what a line says: none where it is an operation
-abbrev pub lineNumber : Line → Option ℕ
-lineNumber (Op o) = none
-lineNumber (Refused x) = some (listNumber x)
+abbrev pub line_number : Line → Option ℕ
+line_number (Op o) = none
+line_number (Refused x) = some (list_number x)
 
 -- how many bytes a list may have
-abbrev pub listLimit : ℕ
-listLimit = 65536
+abbrev pub list_limit : ℕ
+list_limit = 65536
 
-unfoldable pub tooLong : List ℕ → Bool
-tooLong l = ltb listLimit (length l)
+unfoldable pub too_long : List ℕ → Bool
+too_long l = ltb list_limit (length l)
 
 -- the names line, ended by a newline
-unfoldable pub hasNames : List ℕ → Bool
-hasNames l = cond (has newline l) (same (until newline l) names) false
+unfoldable pub has_names : List ℕ → Bool
+has_names l = cond (has newline l) (same (until newline l) names) false
 
 -- how the reading of a list ends: at its end, or at a line that is turned back
 pub data Ending : Type 0 where
@@ -41,54 +41,54 @@ pub data Ending : Type 0 where
   stopped : ℕ → Reason → Ending
 
 -- the line and the number of an ending: none at the end of the list
-abbrev pub endingNumber : Ending → Option (ℕ × ℕ)
-endingNumber finished = none
-endingNumber (stopped n x) = some (n, listNumber x)
+abbrev pub ending_number : Ending → Option (ℕ × ℕ)
+ending_number finished = none
+ending_number (stopped n x) = some (n, list_number x)
 
 -- what is read of a list: the operations of its lines before the end or the refusal, and how it ends
 pub record Reading : Type 0 where
   pub operations : List Operation
   pub ending : Ending
 
-abbrev pub stoppedAt : ℕ → Reason → Reading
-stoppedAt n x = record { operations = []; ending = stopped n x }
+abbrev pub stopped_at : ℕ → Reason → Reading
+stopped_at n x = record { operations = []; ending = stopped n x }
 
-abbrev pub nothingLeft : Reading
-nothingLeft = record { operations = []; ending = finished }
+abbrev pub nothing_left : Reading
+nothing_left = record { operations = []; ending = finished }
 
 -- a line, line n, in front of what is read of the rest
-abbrev pub readLine : ℕ → Line → Reading → Reading
-readLine n (Op o) r = record { operations = o ∷ r.operations; ending = r.ending }
-readLine n (Refused x) r = stoppedAt n x
+abbrev pub read_line : ℕ → Line → Reading → Reading
+read_line n (Op o) r = record { operations = o ∷ r.operations; ending = r.ending }
+read_line n (Refused x) r = stopped_at n x
 
-abbrev pub ifEmpty : {A : Type 0} → List ℕ → A → A → A
-ifEmpty [] p q = p
-ifEmpty (x ∷ xs) p q = q
+abbrev pub if_empty : {A : Type 0} → List ℕ → A → A → A
+if_empty [] p q = p
+if_empty (x ∷ xs) p q = q
 
 -- what is read of the lines from line n on; each line takes a byte, so as many turns as there are bytes are enough
-unfoldable pub readLines : ℕ → ℕ → List ℕ → Reading
-readLines zero n l = ifEmpty l nothingLeft (stoppedAt n Shape)
-readLines (suc turns) n l = ifEmpty l nothingLeft (readLine n (line_of l) (readLines turns (suc n) (past newline l)))
+unfoldable pub read_lines : ℕ → ℕ → List ℕ → Reading
+read_lines zero n l = if_empty l nothing_left (stopped_at n Shape)
+read_lines (suc turns) n l = if_empty l nothing_left (read_line n (line_of l) (read_lines turns (suc n) (past newline l)))
 
 -- the lines after the names line
-abbrev pub readRest : List ℕ → Reading
-readRest l = readLines (length l) 2 l
+abbrev pub read_rest : List ℕ → Reading
+read_rest l = read_lines (length l) 2 l
 
 -- 1 before 2, both at line 1; then the lines
-unfoldable pub readList : List ℕ → Reading
-readList l = cond (tooLong l) (stoppedAt 1 TooLong) (cond (hasNames l) (readRest (past newline l)) (stoppedAt 1 Names))
+unfoldable pub read_list : List ℕ → Reading
+read_list l = cond (too_long l) (stopped_at 1 TooLong) (cond (has_names l) (read_rest (past newline l)) (stopped_at 1 Names))
 
 -- the list l is accepted with the operations os
 abbrev pub Accepts : List ℕ → List Operation → Type 0
-Accepts l os = readList l ≡ record { operations = os; ending = finished }
+Accepts l os = read_list l ≡ record { operations = os; ending = finished }
 
 -- the text of a list of operations
-unfoldable pub linesText : List Operation → List ℕ
-linesText [] = []
-linesText (o ∷ os) = lineText o ++ linesText os
+unfoldable pub lines_text : List Operation → List ℕ
+lines_text [] = []
+lines_text (o ∷ os) = line_text o ++ lines_text os
 
-unfoldable pub listText : List Operation → List ℕ
-listText os = names ++ (newline ∷ linesText os)
+unfoldable pub list_text : List Operation → List ℕ
+list_text os = names ++ (newline ∷ lines_text os)
 
 pub data AllValid : List Operation → Type 0 where
   no_more : AllValid []
@@ -97,6 +97,6 @@ pub data AllValid : List Operation → Type 0 where
 -- The second sentence of demand 2: two accepted lists with the same operations and field values are the same bytes, because an
 -- accepted list is the text of its operations; and every text of operations that have lines is accepted, if it is not too long.
 pub record Canonical : Type 0 where
-  pub printed : (l : List ℕ) (os : List Operation) → Accepts l os → l ≡ listText os
-  pub sameBytes : (l m : List ℕ) (os : List Operation) → Accepts l os → Accepts m os → l ≡ m
-  pub accepted : (os : List Operation) → AllValid os → length (listText os) ≤ listLimit → Accepts (listText os) os
+  pub printed : (l : List ℕ) (os : List Operation) → Accepts l os → l ≡ list_text os
+  pub same_bytes : (l m : List ℕ) (os : List Operation) → Accepts l os → Accepts m os → l ≡ m
+  pub accepted : (os : List Operation) → AllValid os → length (list_text os) ≤ list_limit → Accepts (list_text os) os

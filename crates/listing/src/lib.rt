@@ -3,8 +3,8 @@
 ghost use Rattle.std.specs.Prelude.{◌≡◌, ◌<◌};
 ghost use Rattle.text.specs.Split.{past as Split·past};
 ghost use Rattle.names.specs.Names.{newline};
-ghost use Rattle.listing.specs.Line.{used as Line·used, spare as Line·spare, op_of, judged, values_of, fieldA, fieldB, fieldC, fields_of, line_of};
-ghost use Rattle.listing.specs.Whole.{tooLong, hasNames, listNumber, lineNumber};
+ghost use Rattle.listing.specs.Line.{used as Line·used, spare as Line·spare, op_of, judged, values_of, field_a, field_b, field_c, fields_of, line_of};
+ghost use Rattle.listing.specs.Whole.{too_long, has_names, list_number, line_number};
 
 use model::{Kind, Operation};
 use names::{Named, name_of};
@@ -37,7 +37,7 @@ pub enum Values {
 
 // The number of a reason.
 pub fn list_number(x: Reason) -> u32
-    ensures { (result ≡ listNumber x) × (result < 16) }
+    ensures { (result ≡ list_number x) × (result < 16) }
 {
     match x {
         Reason::TooLong => 1,
@@ -123,7 +123,7 @@ fn judge(n: Named, v: Values) -> Line
 
 // The last field is all of `l`, which has no comma; the value of b, of a and the name stand before it.
 fn field_c(n: Named, a: Value, b: Value, l: &[u8]) -> Line
-    ensures { result ≡ fieldC n a b l.now }
+    ensures { result ≡ field_c n a b l.now }
 {
     if text::has(l, b',') {
         return Line::Refused(Reason::Shape);
@@ -133,7 +133,7 @@ fn field_c(n: Named, a: Value, b: Value, l: &[u8]) -> Line
 
 // The field b, up to a comma, and the last one.
 fn field_b(n: Named, a: Value, l: &[u8]) -> Line
-    ensures { result ≡ fieldB n a l.now }
+    ensures { result ≡ field_b n a l.now }
 {
     let end = text::find(l, b',');
     if end < l.len() {
@@ -144,7 +144,7 @@ fn field_b(n: Named, a: Value, l: &[u8]) -> Line
 
 // The field a and the two after it.
 fn field_a(n: Named, l: &[u8]) -> Line
-    ensures { result ≡ fieldA n l.now }
+    ensures { result ≡ field_a n l.now }
 {
     let end = text::find(l, b',');
     if end < l.len() {
@@ -166,7 +166,7 @@ fn fields(l: &[u8]) -> Line
 
 // Reads the first line of what is left of a list.
 pub fn read_line(list: &[u8]) -> Line
-    ensures { (result ≡ line_of list.now) × (lineNumber result ≡ lineNumber (line_of list.now)) }
+    ensures { (result ≡ line_of list.now) × (line_number result ≡ line_number (line_of list.now)) }
 {
     let end = text::find(list, b'\n');
     if end < list.len() {
@@ -184,14 +184,14 @@ pub fn rest(list: &[u8]) -> &[u8]
 
 // Whether a list has more bytes than a list may have.
 pub fn too_long(list: &[u8]) -> bool
-    ensures { result ≡ tooLong list.now }
+    ensures { result ≡ too_long list.now }
 {
-    65536 < list.len() // listLimit
+    65536 < list.len() // list_limit
 }
 
 // Whether a list begins with the names line.
 pub fn has_names(list: &[u8]) -> bool
-    ensures { result ≡ hasNames list.now }
+    ensures { result ≡ has_names list.now }
 {
     if text::has(list, b'\n') {
         return text::same(text::until(list, b'\n'), b"op,a,b,c");

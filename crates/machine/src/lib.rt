@@ -1,6 +1,6 @@
 // The machine: start, and one operation. Registers go by value; memory and track are lent.
 ghost use Rattle.std.specs.Prelude.{◌≡◌};
-ghost use Rattle.model.specs.step.Machine.{Gives, withRoot, withContext, withMode, withDomains, operate, stepped, started};
+ghost use Rattle.model.specs.step.Machine.{Gives, with_root, with_context, with_mode, with_domains, operate, stepped, started};
 
 use access::size_of;
 use model::{Answer, Check, Kind, OLD_WINDOW, Operation, Registers, Returned, Setting};
@@ -8,7 +8,7 @@ use transfer::{carry, carry_flushed, fetch, read, write};
 
 // The registers with another root, another context, another mode, another domain register.
 fn with_root(r: Registers, a: u32) -> Registers
-    ensures { result ≡ withRoot r a }
+    ensures { result ≡ with_root r a }
 {
     Registers {
         root: a,
@@ -19,7 +19,7 @@ fn with_root(r: Registers, a: u32) -> Registers
 }
 
 fn with_context(r: Registers, a: u32) -> Registers
-    ensures { result ≡ withContext r a }
+    ensures { result ≡ with_context r a }
 {
     Registers {
         root: r.root,
@@ -30,7 +30,7 @@ fn with_context(r: Registers, a: u32) -> Registers
 }
 
 pub fn with_mode(r: Registers, a: u32) -> Registers
-    ensures { result ≡ withMode r a }
+    ensures { result ≡ with_mode r a }
 {
     Registers {
         root: r.root,
@@ -41,7 +41,7 @@ pub fn with_mode(r: Registers, a: u32) -> Registers
 }
 
 pub fn with_domains(r: Registers, a: u32) -> Registers
-    ensures { result ≡ withDomains r a }
+    ensures { result ≡ with_domains r a }
 {
     Registers {
         root: r.root,
@@ -66,7 +66,7 @@ pub fn carry_out(kind: Kind, o: Operation, r: Registers, m: &mut [u8], t: &mut [
             carry_flushed(Answer::Done(0), r, m, t)
         }
         Kind::Addr => {
-            track::flush_page(OLD_WINDOW, t, o.a as usize / 4096); // pageSize
+            track::flush_page(OLD_WINDOW, t, o.a as usize / 4096); // page_size
             carry_flushed(Answer::Done(0), r, m, t)
         }
         Kind::Ctx => {
@@ -74,7 +74,7 @@ pub fn carry_out(kind: Kind, o: Operation, r: Registers, m: &mut [u8], t: &mut [
             carry(Answer::Done(0), r, m, t)
         }
         Kind::AddrCtx => {
-            track::flush_page_in(OLD_WINDOW, t, o.b as usize, o.a as usize / 4096); // pageSize
+            track::flush_page_in(OLD_WINDOW, t, o.b as usize, o.a as usize / 4096); // page_size
             carry_flushed(Answer::Done(0), r, m, t)
         }
         Kind::Fetch => fetch(o.a, r, m, t),

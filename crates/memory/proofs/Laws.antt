@@ -11,28 +11,28 @@ use borrow.Author.Tests.{leb-true}
 use Rattle.model.specs.declared.Size.{Size}
 use Rattle.model.specs.declared.Loaded.{Loaded}
 use Rattle.model.specs.declared.Loaded.TheVariants.{Value, Outside}
-use Rattle.model.specs.step.Memory.{bytes_of, number_at, stored_at, within, loadAt, writtenAt}
+use Rattle.model.specs.step.Memory.{bytes_of, number_at, stored_at, within, load_at, written_at}
 
 module _ (m : List ℕ) (at : ℕ) (s : Size) (b : Bool) (w : b ≡ within s m at) where
   pub fits : (t : Size) → s ≡ t → b ≡ true → at + bytes_of t ≤ length m
   unfolding within
   fits t e h = leb-true (at + bytes_of t) (length m) (rw (← e) (sym w ∙ h))
 
-  pub loaded : (t : Size) → s ≡ t → b ≡ true → (v : ℕ) → v ≡ number_at t m at → Value v ≡ loadAt s m at
-  unfolding loadAt
+  pub loaded : (t : Size) → s ≡ t → b ≡ true → (v : ℕ) → v ≡ number_at t m at → Value v ≡ load_at s m at
+  unfolding load_at
   loaded t e h v q = rw (← w, h, e) (ap Value q)
 
-  pub not-loaded : b ≡ false → Outside ≡ loadAt s m at
-  unfolding loadAt
-  not-loaded h = rw (← w, h)
+  pub not_loaded : b ≡ false → Outside ≡ load_at s m at
+  unfolding load_at
+  not_loaded h = rw (← w, h)
 
-  pub stored : (t : Size) → s ≡ t → b ≡ true → (v : ℕ) (n : List ℕ) → n ≡ stored_at t m at v → n ≡ writtenAt s m at v
-  unfolding writtenAt
+  pub stored : (t : Size) → s ≡ t → b ≡ true → (v : ℕ) (n : List ℕ) → n ≡ stored_at t m at v → n ≡ written_at s m at v
+  unfolding written_at
   stored t e h v n q = rw (← w, h, e) q
 
-  pub not-stored : b ≡ false → (v : ℕ) → m ≡ writtenAt s m at v
-  unfolding writtenAt
-  not-stored h v = rw (← w, h)
+  pub not_stored : b ≡ false → (v : ℕ) → m ≡ written_at s m at v
+  unfolding written_at
+  not_stored h v = rw (← w, h)
 
 -- a value that is known in two ways, under a function
 pub via : {A B : Type 0} (f : A → B) {r x y : A} → r ≡ x → r ≡ y → f y ≡ f x

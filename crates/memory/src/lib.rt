@@ -1,7 +1,7 @@
 // Numbers of one, two and four bytes in memory, low byte first. Bytes outside memory are an answer.
 ghost use Rattle.std.specs.Prelude.{◌≡◌, ◌+◌, ◌*◌, ◌<◌, ◌≤◌, length};
 ghost use Rattle.model.specs.declared.Size.TheVariants.{One, Two, Four};
-ghost use Rattle.model.specs.step.Memory.{bytes_of, within, number_at, loadAt, stored_at, writtenAt};
+ghost use Rattle.model.specs.step.Memory.{bytes_of, within, number_at, load_at, stored_at, written_at};
 
 use model::{Loaded, Size};
 
@@ -68,7 +68,7 @@ fn four(m: &[u8], at: usize) -> u32
 
 // The number of this size at `at`, or that it does not lie in memory.
 pub fn load(m: &[u8], at: usize, size: Size) -> Loaded
-    ensures { result ≡ loadAt size m.now at }
+    ensures { result ≡ load_at size m.now at }
 {
     if inside(m, at, size) {
         match size {
@@ -107,7 +107,7 @@ fn put_four(m: &mut [u8], at: usize, v: u32)
 
 // Stores the low bytes of v, and says whether they lie in memory.
 pub fn store(m: &mut [u8], at: usize, size: Size, v: u32) -> bool
-    ensures { (result ≡ within size m.old at) × (m.new ≡ writtenAt size m.old at v) }
+    ensures { (result ≡ within size m.old at) × (m.new ≡ written_at size m.old at v) }
 {
     if inside(m, at, size) {
         match size {

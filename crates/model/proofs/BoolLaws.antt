@@ -37,8 +37,8 @@ at_each (suc n) test h i lt = go (at_each n test (and_both (test n) (all_below n
     go below false e = let ne = eqb-false i n e in below (omega arith)
 
 -- two functions that a computed test finds equal below n, and that are equal from n on
-pub by-table : (n : ℕ) (f g : ℕ → ℕ) → all_below n (λ i. eqb (f i) (g i)) ≡ true → ((i : ℕ) → n ≤ i → f i ≡ g i) → (i : ℕ) → f i ≡ g i
-by-table n f g h past i = go (ltb i n) refl
+pub by_table : (n : ℕ) (f g : ℕ → ℕ) → all_below n (λ i. eqb (f i) (g i)) ≡ true → ((i : ℕ) → n ≤ i → f i ≡ g i) → (i : ℕ) → f i ≡ g i
+by_table n f g h past i = go (ltb i n) refl
   where
     go : (b : Bool) → ltb i n ≡ b → f i ≡ g i
     go true e = eqb-true (f i) (g i) (at_each n (λ i. eqb (f i) (g i)) h i (ltb-true i n e))
@@ -50,49 +50,49 @@ same_test true y f g = sym (f refl)
 same_test false true f g = g refl
 same_test false false f g = refl
 
-pub leb-same : (a b c d : ℕ) → (a ≤ b → c ≤ d) → (c ≤ d → a ≤ b) → leb a b ≡ leb c d
-leb-same a b c d f g = same_test (leb a b) (leb c d) (λ e. le-leb c d (f (leb-true a b e))) (λ e. le-leb a b (g (leb-true c d e)))
+pub leb_same : (a b c d : ℕ) → (a ≤ b → c ≤ d) → (c ≤ d → a ≤ b) → leb a b ≡ leb c d
+leb_same a b c d f g = same_test (leb a b) (leb c d) (λ e. le-leb c d (f (leb-true a b e))) (λ e. le-leb a b (g (leb-true c d e)))
 
 pub eqb_same : (a b c d : ℕ) → (a ≡ b → c ≡ d) → (c ≡ d → a ≡ b) → eqb a b ≡ eqb c d
 eqb_same a b c d f g = same_test (eqb a b) (eqb c d) (λ e. eq-eqb c d (f (eqb-true a b e))) (λ e. eq-eqb a b (g (eqb-true c d e)))
 
 -- not below is at least
-pub not-ltb : (a n : ℕ) → not (ltb a n) ≡ leb n a
-not-ltb a n = go (ltb a n) refl
+pub not_ltb : (a n : ℕ) → not (ltb a n) ≡ leb n a
+not_ltb a n = go (ltb a n) refl
   where
     go : (b : Bool) → ltb a n ≡ b → not b ≡ leb n a
     go true e = sym (lt-leb n a (ltb-true a n e))
     go false e = sym (le-leb n a (ltb-false a n e))
 
 -- not at most is above
-pub not-leb : (a n : ℕ) → not (leb a n) ≡ leb (suc n) a
-not-leb a n = go (leb a n) refl
+pub not_leb : (a n : ℕ) → not (leb a n) ≡ leb (suc n) a
+not_leb a n = go (leb a n) refl
   where
     go : (b : Bool) → leb a n ≡ b → not b ≡ leb (suc n) a
     go true e = let h = leb-true a n e in sym (lt-leb (suc n) a (omega arith))
     go false e = sym (le-leb (suc n) a (leb-false a n e))
 
 -- choices of tests as their conjunction, disjunction and negation
-pub three-and : (x y z : Bool) → cond x (cond y z false) false ≡ (x && y && z)
-three-and true true z = refl
-three-and true false z = refl
-three-and false y z = refl
+pub three_and : (x y z : Bool) → cond x (cond y z false) false ≡ (x && y && z)
+three_and true true z = refl
+three_and true false z = refl
+three_and false y z = refl
 
-pub three-or : (x y z : Bool) → cond x true (cond y true z) ≡ (x || y || z)
-three-or true y z = refl
-three-or false true z = refl
-three-or false false z = refl
+pub three_or : (x y z : Bool) → cond x true (cond y true z) ≡ (x || y || z)
+three_or true y z = refl
+three_or false true z = refl
+three_or false false z = refl
 
-pub not-four : (x y z w : Bool) → not (cond x (cond y (cond z w false) false) false) ≡ (not x || not y || not z || not w)
-not-four true true true w = refl
-not-four true true false w = refl
-not-four true false z w = refl
-not-four false y z w = refl
+pub not_four : (x y z w : Bool) → not (cond x (cond y (cond z w false) false) false) ≡ (not x || not y || not z || not w)
+not_four true true true w = refl
+not_four true true false w = refl
+not_four true false z w = refl
+not_four false y z w = refl
 
-pub not-two : (x y : Bool) → not (cond x y false) ≡ (not x || not y)
-not-two true y = refl
-not-two false y = refl
+pub not_two : (x y : Bool) → not (cond x y false) ≡ (not x || not y)
+not_two true y = refl
+not_two false y = refl
 
-pub or-false : (x : Bool) → (x || false) ≡ x
-or-false true = refl
-or-false false = refl
+pub or_false : (x : Bool) → (x || false) ≡ x
+or_false true = refl
+or_false false = refl

@@ -50,8 +50,8 @@ pub same_false : (x y : Entry) → same x y ≡ false → x ≡ y → ⊥
 same_false x y p q = true≢false (sym (same_self y) ∙ ap (λ z. same z y) (sym q) ∙ p)
 
 -- so equality of entries is decided
-pub entry-discrete : Discrete Entry
-entry-discrete x y = go (same x y) refl
+pub entry_discrete : Discrete Entry
+entry_discrete x y = go (same x y) refl
   where
     go : (b : Bool) → same x y ≡ b → Dec (x ≡ y)
     go true p = yes (same_true x y p)

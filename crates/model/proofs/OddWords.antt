@@ -6,9 +6,9 @@ use mathlib.Core.List.{List}
 use native.Mathlib.Omega.{arith}
 use lib.Dec.{eqb}
 use borrow.Author.Tests.{eqb-true, ne_eqb}
-use Rattle.model.specs.Limits.{pageSize, oldWindow, rowSize}
-use Rattle.model.specs.reference.Rules.{Translation, found, failed, bits, State, carriedOut, outcome, Scope, own, global, scope_of, covers, sameScope, flushes, Kept, empty, one, several, word_of, entry_of, suits, kept, addTo, noted, differs, noted_in, wordAfter, trackWord, stale, has_row, conditions, Given}
-use Rattle.model.specs.Demands.{Call, conditionsOf, after, before, OddWords}
+use Rattle.model.specs.Limits.{page_size, old_window, row_size}
+use Rattle.model.specs.reference.Rules.{Translation, found, failed, bits, State, carried_out, outcome, Scope, own, global, scope_of, covers, same_scope, flushes, Kept, empty, one, several, word_of, entry_of, suits, kept, add_to, noted, differs, noted_in, word_after, track_word, stale, has_row, conditions, Given}
+use Rattle.model.specs.Demands.{Call, conditions_of, after, before, OddWords}
 use Rattle.model.specs.Types.{Entry}
 use Rattle.model.proofs.BoolLaws.{either}
 use Rattle.model.proofs.Calls.{words}
@@ -26,42 +26,42 @@ counts u w nz h = rw (ne_eqb w 0 nz) (go (eqb w (word_of (entry_of w))) (suits u
     go true false p q = refl
     go false y p q = refl
 
-noted-stays : (u : Scope) (c : ℕ) (x : Translation) (w : ℕ) → kept u w ≡ several → noted u c x w ≡ w
-unfolding noted addTo
-noted-stays u c (found e) w k = rw k (either (sameScope u (scope_of c e)) w)
-noted-stays u c (failed n) w k = refl
+noted_stays : (u : Scope) (c : ℕ) (x : Translation) (w : ℕ) → kept u w ≡ several → noted u c x w ≡ w
+unfolding noted add_to
+noted_stays u c (found e) w k = rw k (either (same_scope u (scope_of c e)) w)
+noted_stays u c (failed n) w k = refl
 
-noted-in-stays : (s : State) (u : Scope) (p w : ℕ) → kept u w ≡ several → noted_in s u p w ≡ w
+noted_in_stays : (s : State) (u : Scope) (p w : ℕ) → kept u w ≡ several → noted_in s u p w ≡ w
 unfolding noted_in
-noted-in-stays s u p w k = noted-stays u s.registers.context (outcome s (p * pageSize)) w k
+noted_in_stays s u p w k = noted_stays u s.registers.context (outcome s (p * page_size)) w k
 
-stays : (x : Call) → ((r : ℕ) → Given r (conditionsOf x) → ⊥) → (u : Scope) (p : ℕ) → has_row oldWindow x.track u ≡ true → p < rowSize oldWindow →
-    kept u (trackWord oldWindow x.track u p) ≡ several → flushes x.operation.kind x.operation u p ≡ false →
-    trackWord oldWindow (after x).track u p ≡ trackWord oldWindow x.track u p
-unfolding wordAfter
+stays : (x : Call) → ((r : ℕ) → Given r (conditions_of x) → ⊥) → (u : Scope) (p : ℕ) → has_row old_window x.track u ≡ true → p < row_size old_window →
+    kept u (track_word old_window x.track u p) ≡ several → flushes x.operation.kind x.operation u p ≡ false →
+    track_word old_window (after x).track u p ≡ track_word old_window x.track u p
+unfolding word_after
 stays x h u p d q k f =
     words x h u p d q
-    ∙ ap (λ b. noted_in (carriedOut x.operation (before x)).1 u p (cond b 0 (trackWord oldWindow x.track u p))) f
-    ∙ noted-in-stays (carriedOut x.operation (before x)).1 u p (trackWord oldWindow x.track u p) k
+    ∙ ap (λ b. noted_in (carried_out x.operation (before x)).1 u p (cond b 0 (track_word old_window x.track u p))) f
+    ∙ noted_in_stays (carried_out x.operation (before x)).1 u p (track_word old_window x.track u p) k
 
-several-stale : (W : ℕ) (t : List ℕ) (u : Scope) (c p : ℕ) (y : Translation) → covers u c ≡ true → kept u (trackWord W t u p) ≡ several → stale W t c p y ≡ true
+several_stale : (W : ℕ) (t : List ℕ) (u : Scope) (c p : ℕ) (y : Translation) → covers u c ≡ true → kept u (track_word W t u p) ≡ several → stale W t c p y ≡ true
 unfolding stale differs covers
-several-stale W t (own d) c p y e k =
-    let here : kept (own c) (trackWord W t (own c) p) ≡ several = ap (λ n. kept (own n) (trackWord W t (own n) p)) (sym (eqb-true d c e)) ∙ k in
+several_stale W t (own d) c p y e k =
+    let here : kept (own c) (track_word W t (own c) p) ≡ several = ap (λ n. kept (own n) (track_word W t (own n) p)) (sym (eqb-true d c e)) ∙ k in
     rw here
-several-stale W t global c p y e k = rw k (or-true (differs (kept (own c) (trackWord W t (own c) p)) y))
+several_stale W t global c p y e k = rw k (or_true (differs (kept (own c) (track_word W t (own c) p)) y))
   where
-    or-true : (x : Bool) → (x || true) ≡ true
-    or-true true = refl
-    or-true false = refl
+    or_true : (x : Bool) → (x || true) ≡ true
+    or_true true = refl
+    or_true false = refl
 
-goes : (x : Call) → ((r : ℕ) → Given r (conditionsOf x) → ⊥) → (u : Scope) (p : ℕ) → has_row oldWindow x.track u ≡ true → p < rowSize oldWindow →
+goes : (x : Call) → ((r : ℕ) → Given r (conditions_of x) → ⊥) → (u : Scope) (p : ℕ) → has_row old_window x.track u ≡ true → p < row_size old_window →
     flushes x.operation.kind x.operation u p ≡ true →
-    trackWord oldWindow (after x).track u p ≡ noted_in (carriedOut x.operation (before x)).1 u p 0
-unfolding wordAfter
+    track_word old_window (after x).track u p ≡ noted_in (carried_out x.operation (before x)).1 u p 0
+unfolding word_after
 goes x h u p d q f =
     words x h u p d q
-    ∙ ap (λ b. noted_in (carriedOut x.operation (before x)).1 u p (cond b 0 (trackWord oldWindow x.track u p))) f
+    ∙ ap (λ b. noted_in (carried_out x.operation (before x)).1 u p (cond b 0 (track_word old_window x.track u p))) f
 
-pub odd-words : OddWords
-odd-words = record { counts = counts; stays = stays; isStale = several-stale; goes = goes }
+pub odd_words : OddWords
+odd_words = record { counts = counts; stays = stays; is_stale = several_stale; goes = goes }

@@ -7,97 +7,97 @@ use mathlib.Core.Option.{Option, none, some}
 use native.Mathlib.Omega.{arith}
 use lib.Dec.{eqb, leb}
 use lib.ListN.{length}
-use Rattle.model.specs.Limits.{pageSize, oldSplit, oldWindow, memoryUnit, memoryMost}
-use Rattle.model.specs.Numbers.{faultNumber}
-use Rattle.model.specs.reference.Rules.{among, wrongMemory, refuses8, walkConditions, Given, walk, translationNumber, refusedWalk}
-use Rattle.model.specs.step.Checks.{memoryFits, rootFits, inWindow}
-use Rattle.model.specs.step.Walk.{walkPage}
-use Rattle.model.specs.step.WalkAnswer.{outcomeNumber, walkAnswer}
+use Rattle.model.specs.Limits.{page_size, old_split, old_window, memory_unit, memory_most}
+use Rattle.model.specs.Numbers.{fault_number}
+use Rattle.model.specs.reference.Rules.{among, wrong_memory, refuses8, walk_conditions, Given, walk, translation_number, refused_walk}
+use Rattle.model.specs.step.Checks.{memory_fits, root_fits, in_window}
+use Rattle.model.specs.step.Walk.{walk_page}
+use Rattle.model.specs.step.WalkAnswer.{outcome_number, walk_answer}
 use Rattle.model.specs.Demands.{SingleWalk}
 use Rattle.model.specs.Types.{Fault, Alignment, FirstUnmapped, SecondUnmapped, SectionDomain, PageDomain, SectionPermission, PagePermission, FirstOutside, SecondOutside, AccessOutside, Outcome, Mapped, Failed}
-use Rattle.model.proofs.BoolLaws.{three-and}
-use Rattle.model.proofs.Checks.{window-test, root-test}
+use Rattle.model.proofs.BoolLaws.{three_and}
+use Rattle.model.proofs.Checks.{window_test, root_test}
 use Rattle.model.proofs.Walk.{translation, walk_same}
-use Rattle.model.proofs.Words.{InRange, word_same, walk-range}
-use Rattle.model.proofs.Calls.{firstHolding, given-first, first-given, none-some}
+use Rattle.model.proofs.Words.{InRange, word_same, walk_range}
+use Rattle.model.proofs.Calls.{first_holding, given_first, first_given, none_some}
 
 -- a refusal by the first condition that holds, or what the walk finds
-abbrev numberBy : Option ℕ → ℕ → ℕ
-numberBy (some r) n = refusedWalk r
-numberBy none n = n
+abbrev number_by : Option ℕ → ℕ → ℕ
+number_by (some r) n = refused_walk r
+number_by none n = n
 
 -- what a walk finds, as a number: the step's is the reference's
-outcome-same : (x : Outcome) → InRange x → outcomeNumber x ≡ translationNumber (translation x)
-unfolding translationNumber
-outcome-same (Mapped e) h = word_same e h
-outcome-same (Failed f) h = refl
+outcome_same : (x : Outcome) → InRange x → outcome_number x ≡ translation_number (translation x)
+unfolding translation_number
+outcome_same (Mapped e) h = word_same e h
+outcome_same (Failed f) h = refl
 
 -- it is below every refusal
-fault-small : (f : Fault) → faultNumber f < 16
-fault-small Alignment = omega arith
-fault-small FirstUnmapped = omega arith
-fault-small SecondUnmapped = omega arith
-fault-small SectionDomain = omega arith
-fault-small PageDomain = omega arith
-fault-small SectionPermission = omega arith
-fault-small PagePermission = omega arith
-fault-small FirstOutside = omega arith
-fault-small SecondOutside = omega arith
-fault-small AccessOutside = omega arith
+fault_small : (f : Fault) → fault_number f < 16
+fault_small Alignment = omega arith
+fault_small FirstUnmapped = omega arith
+fault_small SecondUnmapped = omega arith
+fault_small SectionDomain = omega arith
+fault_small PageDomain = omega arith
+fault_small SectionPermission = omega arith
+fault_small PagePermission = omega arith
+fault_small FirstOutside = omega arith
+fault_small SecondOutside = omega arith
+fault_small AccessOutside = omega arith
 
-outcome-small : (x : Outcome) → outcomeNumber x < 0x200000000
-outcome-small (Mapped e) = omega arith
-outcome-small (Failed f) = omega (arith, fault-small f)
+outcome_small : (x : Outcome) → outcome_number x < 0x200000000
+outcome_small (Mapped e) = omega arith
+outcome_small (Failed f) = omega (arith, fault_small f)
 
 module _ (m : List ℕ) (root a : ℕ) where
   -- the outcome of the walk, as a number
   here : ℕ
-  here = outcomeNumber (walkPage m (record { root = root }) (a / pageSize))
+  here = outcome_number (walk_page m (record { root = root }) (a / page_size))
 
-  here-same : here ≡ translationNumber (walk m root a)
+  here_same : here ≡ translation_number (walk m root a)
   unfolding here
-  here-same = outcome-same (walkPage m (record { root = root }) (a / pageSize)) (walk-range m (record { root = root }) (a / pageSize)) ∙ ap translationNumber (walk_same m (record { root = root }) a)
+  here_same = outcome_same (walk_page m (record { root = root }) (a / page_size)) (walk_range m (record { root = root }) (a / page_size)) ∙ ap translation_number (walk_same m (record { root = root }) a)
 
   -- the three tests are the three conditions
-  by_tests : (x y z : Bool) → cond x (cond y (cond z here (refusedWalk 8)) (refusedWalk 10)) (refusedWalk 13)
-      ≡ numberBy (firstHolding ((13, not x) ∷ (10, not y) ∷ (8, not z) ∷ [])) here
-  unfolding firstHolding
+  by_tests : (x y z : Bool) → cond x (cond y (cond z here (refused_walk 8)) (refused_walk 10)) (refused_walk 13)
+      ≡ number_by (first_holding ((13, not x) ∷ (10, not y) ∷ (8, not z) ∷ [])) here
+  unfolding first_holding
   by_tests true true true = refl
   by_tests true true false = refl
   by_tests true false z = refl
   by_tests false y z = refl
 
-  tests_same : ((13, not (memoryFits (length m))) ∷ (10, not (rootFits oldSplit root)) ∷ (8, not (inWindow oldWindow a)) ∷ []) ≡ walkConditions m root a
-  unfolding walkConditions memoryFits refuses8 among
+  tests_same : ((13, not (memory_fits (length m))) ∷ (10, not (root_fits old_split root)) ∷ (8, not (in_window old_window a)) ∷ []) ≡ walk_conditions m root a
+  unfolding walk_conditions memory_fits refuses8 among
   tests_same = λ i.
-      (13, not (three-and (eqb (length m % memoryUnit) 0) (leb memoryUnit (length m)) (leb (length m) memoryMost) i))
-      ∷ (10, root-test oldSplit root i)
-      ∷ (8, window-test oldWindow a i)
+      (13, not (three_and (eqb (length m % memory_unit) 0) (leb memory_unit (length m)) (leb (length m) memory_most) i))
+      ∷ (10, root_test old_split root i)
+      ∷ (8, window_test old_window a i)
       ∷ []
 
-  answer-by : walkAnswer m root a ≡ numberBy (firstHolding (walkConditions m root a)) here
-  unfolding walkAnswer refusedWalk here
-  answer-by =
-      by_tests (memoryFits (length m)) (rootFits oldSplit root) (inWindow oldWindow a)
-      ∙ ap (λ (xs : List (ℕ × Bool)). numberBy (firstHolding xs) here) tests_same
+  answer_by : walk_answer m root a ≡ number_by (first_holding (walk_conditions m root a)) here
+  unfolding walk_answer refused_walk here
+  answer_by =
+      by_tests (memory_fits (length m)) (root_fits old_split root) (in_window old_window a)
+      ∙ ap (λ (xs : List (ℕ × Bool)). number_by (first_holding xs) here) tests_same
 
-  refuses : (r : ℕ) (x : Option ℕ) → numberBy x here ≡ refusedWalk r → x ≡ some r
-  unfolding refusedWalk here
+  refuses : (r : ℕ) (x : Option ℕ) → number_by x here ≡ refused_walk r → x ≡ some r
+  unfolding refused_walk here
   refuses r (some s) e = ap some (omega (arith, e))
-  refuses r none e = absurd (let z : ⊥ = omega (arith, e, outcome-small (walkPage m (record { root = root }) (a / pageSize))) in z)
+  refuses r none e = absurd (let z : ⊥ = omega (arith, e, outcome_small (walk_page m (record { root = root }) (a / page_size))) in z)
 
-  given : (r : ℕ) → (walkAnswer m root a ≡ refusedWalk r → Given r (walkConditions m root a)) × (Given r (walkConditions m root a) → walkAnswer m root a ≡ refusedWalk r)
+  given : (r : ℕ) → (walk_answer m root a ≡ refused_walk r → Given r (walk_conditions m root a)) × (Given r (walk_conditions m root a) → walk_answer m root a ≡ refused_walk r)
   given r = (
-    λ e. first-given (walkConditions m root a) r (refuses r (firstHolding (walkConditions m root a)) (sym answer-by ∙ e)),
-    λ g. answer-by ∙ ap (λ (x : Option ℕ). numberBy x here) (given-first (walkConditions m root a) r g),
+    λ e. first_given (walk_conditions m root a) r (refuses r (first_holding (walk_conditions m root a)) (sym answer_by ∙ e)),
+    λ g. answer_by ∙ ap (λ (x : Option ℕ). number_by x here) (given_first (walk_conditions m root a) r g),
   )
 
-  found-by : (x : Option ℕ) → firstHolding (walkConditions m root a) ≡ x → ((r : ℕ) → Given r (walkConditions m root a) → ⊥) → numberBy x here ≡ translationNumber (walk m root a)
-  found-by none e n = here-same
-  found-by (some r) e n = absurd (n r (first-given (walkConditions m root a) r e))
+  found_by : (x : Option ℕ) → first_holding (walk_conditions m root a) ≡ x → ((r : ℕ) → Given r (walk_conditions m root a) → ⊥) → number_by x here ≡ translation_number (walk m root a)
+  found_by none e n = here_same
+  found_by (some r) e n = absurd (n r (first_given (walk_conditions m root a) r e))
 
-  walks : ((r : ℕ) → Given r (walkConditions m root a) → ⊥) → walkAnswer m root a ≡ translationNumber (walk m root a)
-  walks n = answer-by ∙ found-by (firstHolding (walkConditions m root a)) refl n
+  walks : ((r : ℕ) → Given r (walk_conditions m root a) → ⊥) → walk_answer m root a ≡ translation_number (walk m root a)
+  walks n = answer_by ∙ found_by (first_holding (walk_conditions m root a)) refl n
 
-pub single-walk : SingleWalk
-single-walk = record { exactly = given; walks = walks }
+pub single_walk : SingleWalk
+single_walk = record { exactly = given; walks = walks }

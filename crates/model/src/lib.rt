@@ -11,7 +11,7 @@ pub struct Registers {
     pub domains: u32,
 }
 
-// The machine of the rules: the N of its TTBCR, and its window in MiB (oldSplit, oldWindow).
+// The machine of the rules: the N of its TTBCR, and its window in MiB (old_split, old_window).
 pub const OLD_SPLIT: u32 = 7;
 
 pub const OLD_WINDOW: u32 = 4;

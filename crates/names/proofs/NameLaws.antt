@@ -13,46 +13,46 @@ use Rattle.names.specs.declared.Named.TheVariants.{Known}
 use Rattle.names.specs.Names.{comma, newline, name, named_in}
 
 -- one comparison with a name
-pub named-hit : (k : Kind) (ks : List Kind) (s : List ℕ) → same s (name k) ≡ true → named_in (k ∷ ks) s ≡ Known k
+pub named_hit : (k : Kind) (ks : List Kind) (s : List ℕ) → same s (name k) ≡ true → named_in (k ∷ ks) s ≡ Known k
 unfolding named_in
-named-hit k ks s h = rw h
+named_hit k ks s h = rw h
 
-pub named-miss : (k : Kind) (ks : List Kind) (s : List ℕ) → same s (name k) ≡ false → named_in (k ∷ ks) s ≡ named_in ks s
+pub named_miss : (k : Kind) (ks : List Kind) (s : List ℕ) → same s (name k) ≡ false → named_in (k ∷ ks) s ≡ named_in ks s
 unfolding named_in
-named-miss k ks s h = rw h
+named_miss k ks s h = rw h
 
 -- a name has three bytes to seven
-pub name-most : (k : Kind) → length (name k) ≤ 7
-name-most Read = omega arith
-name-most Write = omega arith
-name-most Root = omega arith
-name-most Asid = omega arith
-name-most Mode = omega arith
-name-most All = omega arith
-name-most Addr = omega arith
-name-most Ctx = omega arith
-name-most AddrCtx = omega arith
-name-most Fetch = omega arith
-name-most Domain = omega arith
+pub name_most : (k : Kind) → length (name k) ≤ 7
+name_most Read = omega arith
+name_most Write = omega arith
+name_most Root = omega arith
+name_most Asid = omega arith
+name_most Mode = omega arith
+name_most All = omega arith
+name_most Addr = omega arith
+name_most Ctx = omega arith
+name_most AddrCtx = omega arith
+name_most Fetch = omega arith
+name_most Domain = omega arith
 
-pub name-some : (k : Kind) → 3 ≤ length (name k)
-name-some Read = omega arith
-name-some Write = omega arith
-name-some Root = omega arith
-name-some Asid = omega arith
-name-some Mode = omega arith
-name-some All = omega arith
-name-some Addr = omega arith
-name-some Ctx = omega arith
-name-some AddrCtx = omega arith
-name-some Fetch = omega arith
-name-some Domain = omega arith
+pub name_some : (k : Kind) → 3 ≤ length (name k)
+name_some Read = omega arith
+name_some Write = omega arith
+name_some Root = omega arith
+name_some Asid = omega arith
+name_some Mode = omega arith
+name_some All = omega arith
+name_some Addr = omega arith
+name_some Ctx = omega arith
+name_some AddrCtx = omega arith
+name_some Fetch = omega arith
+name_some Domain = omega arith
 
 -- a separator is no digit
-pub comma-no-digit : digit comma ≡ 16
+pub comma_no_digit : digit comma ≡ 16
 unfolding digit
-comma-no-digit = refl
+comma_no_digit = refl
 
-pub newline-no-digit : digit newline ≡ 16
+pub newline_no_digit : digit newline ≡ 16
 unfolding digit
-newline-no-digit = refl
+newline_no_digit = refl

@@ -1,7 +1,7 @@
 -- The bytes of a list: separators, the names line, and the names of the operations, which are compared with and written.
 use Rattle.std.specs.Prelude.{ℕ, ◌≡◌, cond, List, [], ◌∷◌, map}
 use Rattle.text.specs.Quoted.{quoted}
-use Rattle.model.specs.Numbers.{kindNumber}
+use Rattle.model.specs.Numbers.{kind_number}
 use Rattle.text.specs.Split.{same}
 use Rattle.model.specs.declared.Kind.{Kind}
 use Rattle.model.specs.declared.Kind.TheVariants.{Read, Write, Root, Asid, Mode, All, Addr, Ctx, AddrCtx, Fetch, Domain}
@@ -48,4 +48,4 @@ named_of s = named_in kinds s
 pub record NamesSpelled : Type 0 where
   pub header : names ≡ quoted "op,a,b,c"
   pub operations : map name kinds ≡ map quoted ("read" ∷ "write" ∷ "root" ∷ "asid" ∷ "mode" ∷ "all" ∷ "addr" ∷ "ctx" ∷ "addrctx" ∷ "fetch" ∷ "domain" ∷ [])
-  pub numbers : map kindNumber kinds ≡ 0 ∷ 1 ∷ 2 ∷ 3 ∷ 4 ∷ 5 ∷ 6 ∷ 7 ∷ 8 ∷ 9 ∷ 10 ∷ []
+  pub numbers : map kind_number kinds ≡ 0 ∷ 1 ∷ 2 ∷ 3 ∷ 4 ∷ 5 ∷ 6 ∷ 7 ∷ 8 ∷ 9 ∷ 10 ∷ []

@@ -1,6 +1,6 @@
 // The names of the operations: one function compares with them, one writes them, and both are tied to one definition.
 ghost use Rattle.std.specs.Prelude.{◌≡◌, ◌+◌, ◌≤◌, length};
-ghost use Rattle.text.specs.Put.{over, wrote, placeAfter};
+ghost use Rattle.text.specs.Put.{over, wrote, place_after};
 ghost use Rattle.names.specs.Names.{name as Names·name, named_of};
 
 use model::Kind;
@@ -54,7 +54,7 @@ pub fn name_of(s: &[u8]) -> Named
 
 // Puts the name of an operation, where 7 bytes are left for it.
 pub fn put_name(out: &mut [u8], at: usize, k: Kind) -> usize
-    ensures { (result ≡ placeAfter 7 out.old at (Names·name k)) × (out.new ≡ wrote 7 out.old at (Names·name k)) }
+    ensures { (result ≡ place_after 7 out.old at (Names·name k)) × (out.new ≡ wrote 7 out.old at (Names·name k)) }
 {
     if text::has_room(out, at, 7) {
         return copy_name(out, at, k);

@@ -17,110 +17,110 @@ use Rattle.model.specs.declared.FirstLevel.{FirstLevel}
 use Rattle.model.specs.declared.FirstLevel.TheVariants.{Failing, Table, Section}
 use Rattle.model.specs.declared.Tables.{Tables}
 use Rattle.model.specs.declared.Outcome.TheVariants.{Mapped}
-use Rattle.model.specs.step.Memory.{number_at, within, loadAt}
-use Rattle.model.specs.step.Rows.{mapFirst, mapWords}
-use Rattle.model.specs.step.Walk.{kind_of, superBit, pointerOf, sectionEntry, descriptorAt, first_of, firstFrom, first_at, second_of, secondFrom, secondAt, walkFrom, walkPage}
-use Rattle.model.specs.step.Track.{addOutcome, notePage}
-use Rattle.noting.specs.Mib.{mibPages, noteTable, noteMib}
-use Rattle.track.proofs.Rows.{same-words, from_start, rest-stays, part_length}
+use Rattle.model.specs.step.Memory.{number_at, within, load_at}
+use Rattle.model.specs.step.Rows.{map_first, map_words}
+use Rattle.model.specs.step.Walk.{kind_of, super_bit, pointer_of, section_entry, descriptor_at, first_of, first_from, first_at, second_of, second_from, second_at, walk_from, walk_page}
+use Rattle.model.specs.step.Track.{add_outcome, note_page}
+use Rattle.noting.specs.Mib.{mib_pages, note_table, note_mib}
+use Rattle.track.proofs.Rows.{same_words, from_start, rest_stays, part_length}
 
 -- what a level-one word says of page i, by what it says of page 0
 abbrev pub again : FirstLevel → ℕ → ℕ → FirstLevel
 again (Failing f) x i = Failing f
 again (Table t) x i = Table t
-again (Section e) x i = Section (sectionEntry x i)
+again (Section e) x i = Section (section_entry x i)
 
-by_tests : (b c d : Bool) (t : Pointer) (x i : ℕ) → cond b (Table t) (cond c (cond d (Section (sectionEntry x i)) (Failing FirstUnmapped)) (Failing FirstUnmapped)) ≡ again (cond b (Table t) (cond c (cond d (Section (sectionEntry x 0)) (Failing FirstUnmapped)) (Failing FirstUnmapped))) x i
+by_tests : (b c d : Bool) (t : Pointer) (x i : ℕ) → cond b (Table t) (cond c (cond d (Section (section_entry x i)) (Failing FirstUnmapped)) (Failing FirstUnmapped)) ≡ again (cond b (Table t) (cond c (cond d (Section (section_entry x 0)) (Failing FirstUnmapped)) (Failing FirstUnmapped))) x i
 by_tests true c d t x i = refl
 by_tests false true true t x i = refl
 by_tests false true false t x i = refl
 by_tests false false d t x i = refl
 
-first-again : (x i : ℕ) → first_of x i ≡ again (first_of x 0) x i
+first_again : (x i : ℕ) → first_of x i ≡ again (first_of x 0) x i
 unfolding first_of
-first-again x i = by_tests (eqb (kind_of x) 1) (eqb (kind_of x) 2) (eqb (superBit x) 0) (pointerOf x) x i
+first_again x i = by_tests (eqb (kind_of x) 1) (eqb (kind_of x) 2) (eqb (super_bit x) 0) (pointer_of x) x i
 
 -- pages with one number in their MiB: what a word says of both is the same
-module _ (p q : ℕ) (e : p % mibPages ≡ q % mibPages) where
-  in-large : p % 16 ≡ q % 16
-  in-large = omega (arith, e)
+module _ (p q : ℕ) (e : p % mib_pages ≡ q % mib_pages) where
+  in_large : p % 16 ≡ q % 16
+  in_large = omega (arith, e)
 
-  second-same : (x d : ℕ) → second_of x p d ≡ second_of x q d
+  second_same : (x d : ℕ) → second_of x p d ≡ second_of x q d
   unfolding second_of
-  second-same x d = rw in-large
+  second_same x d = rw in_large
 
-  second_from : (x : Loaded) (d : ℕ) → secondFrom x p d ≡ secondFrom x q d
-  second_from (Value x) d = second-same x d
-  second_from Outside d = refl
+  second_from_lem : (x : Loaded) (d : ℕ) → second_from x p d ≡ second_from x q d
+  second_from_lem (Value x) d = second_same x d
+  second_from_lem Outside d = refl
 
-  table_same : (m : List ℕ) (t : Pointer) → secondAt m t p ≡ secondAt m t q
-  unfolding secondAt
+  table_same : (m : List ℕ) (t : Pointer) → second_at m t p ≡ second_at m t q
+  unfolding second_at
   table_same m t =
-      ap (λ (k : ℕ). secondFrom (descriptorAt m (t.base + 4 * k)) p t.domain) e ∙ second_from (descriptorAt m (t.base + 4 * (q % mibPages))) t.domain
+      ap (λ (k : ℕ). second_from (descriptor_at m (t.base + 4 * k)) p t.domain) e ∙ second_from_lem (descriptor_at m (t.base + 4 * (q % mib_pages))) t.domain
 
-  section-same : (x : ℕ) → sectionEntry x p ≡ sectionEntry x q
-  section-same x = rw e
+  section_same : (x : ℕ) → section_entry x p ≡ section_entry x q
+  section_same x = rw e
 
-  again-same : (m : List ℕ) (y : FirstLevel) (x : ℕ) → walkFrom (again y x p) m p ≡ walkFrom (again y x q) m q
-  again-same m (Failing f) x = refl
-  again-same m (Table t) x = table_same m t
-  again-same m (Section s) x = ap Mapped (section-same x)
+  again_same : (m : List ℕ) (y : FirstLevel) (x : ℕ) → walk_from (again y x p) m p ≡ walk_from (again y x q) m q
+  again_same m (Failing f) x = refl
+  again_same m (Table t) x = table_same m t
+  again_same m (Section s) x = ap Mapped (section_same x)
 
-  first-same : (m : List ℕ) (x : ℕ) → walkFrom (first_of x p) m p ≡ walkFrom (first_of x q) m q
-  first-same m x =
-      ap (λ (y : FirstLevel). walkFrom y m p) (first-again x p) ∙ again-same m (first_of x 0) x ∙ sym (ap (λ (y : FirstLevel). walkFrom y m q) (first-again x q))
+  first_same : (m : List ℕ) (x : ℕ) → walk_from (first_of x p) m p ≡ walk_from (first_of x q) m q
+  first_same m x =
+      ap (λ (y : FirstLevel). walk_from y m p) (first_again x p) ∙ again_same m (first_of x 0) x ∙ sym (ap (λ (y : FirstLevel). walk_from y m q) (first_again x q))
 
-  walk_same : (m : List ℕ) (x : Loaded) → walkFrom (firstFrom x p) m p ≡ walkFrom (firstFrom x q) m q
-  walk_same m (Value x) = first-same m x
+  walk_same : (m : List ℕ) (x : Loaded) → walk_from (first_from x p) m p ≡ walk_from (first_from x q) m q
+  walk_same m (Value x) = first_same m x
   walk_same m Outside = refl
 
 -- page i of a MiB, by the level-one descriptor of that MiB
-one-page : (m : List ℕ) (tables : Tables) (g page i w : ℕ) → page % mibPages ≡ 0 → i < mibPages → notePage m tables g (page + i) w ≡ noteMib m (tables.root + 4 * (page / mibPages)) g i w
-unfolding notePage walkPage first_at
-one-page m tables g page i w z h =
-    let mib : (page + i) / mibPages ≡ page / mibPages = omega (arith, z, h) in
-    let in-mib : (page + i) % mibPages ≡ i % mibPages = omega (arith, z, h) in
-    ap (λ (k : ℕ). addOutcome g w (walkFrom (firstFrom (descriptorAt m (tables.root + 4 * k)) (page + i)) m (page + i))) mib ∙ ap (addOutcome g w) (walk_same (page + i) i in-mib m (descriptorAt m (tables.root + 4 * (page / mibPages))))
+one_page_lem : (m : List ℕ) (tables : Tables) (g page i w : ℕ) → page % mib_pages ≡ 0 → i < mib_pages → note_page m tables g (page + i) w ≡ note_mib m (tables.root + 4 * (page / mib_pages)) g i w
+unfolding note_page walk_page first_at
+one_page_lem m tables g page i w z h =
+    let mib : (page + i) / mib_pages ≡ page / mib_pages = omega (arith, z, h) in
+    let in-mib : (page + i) % mib_pages ≡ i % mib_pages = omega (arith, z, h) in
+    ap (λ (k : ℕ). add_outcome g w (walk_from (first_from (descriptor_at m (tables.root + 4 * k)) (page + i)) m (page + i))) mib ∙ ap (add_outcome g w) (walk_same (page + i) i in-mib m (descriptor_at m (tables.root + 4 * (page / mib_pages))))
 
 -- the next k pages of a row, which are those of one level-one descriptor
-pub by-mib : (m : List ℕ) (tables : Tables) (g page k : ℕ) (rest : List ℕ) → page % mibPages ≡ 0 → k ≤ mibPages → mapFirst (notePage m tables g) page (length (take k rest)) (take k rest) ≡ mapWords (noteMib m (tables.root + 4 * (page / mibPages)) g) (take k rest)
-by-mib m tables g page k rest z n =
+pub by_mib : (m : List ℕ) (tables : Tables) (g page k : ℕ) (rest : List ℕ) → page % mib_pages ≡ 0 → k ≤ mib_pages → map_first (note_page m tables g) page (length (take k rest)) (take k rest) ≡ map_words (note_mib m (tables.root + 4 * (page / mib_pages)) g) (take k rest)
+by_mib m tables g page k rest z n =
     let l : List ℕ = take k rest in
-    ap (λ (s : ℕ). mapFirst (notePage m tables g) s (length l) l) (sym (add-zero page)) ∙ from_start (notePage m tables g) page 0 (length l) l ∙ same-words (λ (i : ℕ). notePage m tables g (page + i)) (noteMib m (tables.root + 4 * (page / mibPages)) g) 0 (length l) l (λ (i : ℕ) a (w : ℕ). one-page m tables g page i w z (omega (arith, a, n, part_length k rest)))
+    ap (λ (s : ℕ). map_first (note_page m tables g) s (length l) l) (sym (add-zero page)) ∙ from_start (note_page m tables g) page 0 (length l) l ∙ same_words (λ (i : ℕ). note_page m tables g (page + i)) (note_mib m (tables.root + 4 * (page / mib_pages)) g) 0 (length l) l (λ (i : ℕ) a (w : ℕ). one_page_lem m tables g page i w z (omega (arith, a, n, part_length k rest)))
 
 -- a word after noting page i of a MiB whose level-one word x says y of page 0
-abbrev pub noteFirst : List ℕ → FirstLevel → ℕ → ℕ → ℕ → ℕ → ℕ
-noteFirst m y x g i w = addOutcome g w (walkFrom (again y x i) m i)
+abbrev pub note_first : List ℕ → FirstLevel → ℕ → ℕ → ℕ → ℕ → ℕ
+note_first m y x g i w = add_outcome g w (walk_from (again y x i) m i)
 
 -- the pages of a level-one descriptor that was read
-pub by_first : (m : List ℕ) (at g : ℕ) (l : List ℕ) (x : ℕ) (y : FirstLevel) → Value x ≡ loadAt Four m at → y ≡ first_of x 0 → mapWords (noteFirst m y x g) l ≡ mapWords (noteMib m at g) l
+pub by_first : (m : List ℕ) (at g : ℕ) (l : List ℕ) (x : ℕ) (y : FirstLevel) → Value x ≡ load_at Four m at → y ≡ first_of x 0 → map_words (note_first m y x g) l ≡ map_words (note_mib m at g) l
 by_first m at g l x y h e =
-    same-words (noteFirst m y x g) (noteMib m at g) 0 (length l) l (λ (i : ℕ) a (w : ℕ). ap (λ (v : FirstLevel). addOutcome g w (walkFrom (again v x i) m i)) e ∙ ap (λ (v : FirstLevel). addOutcome g w (walkFrom v m i)) (sym (first-again x i)) ∙ ap (λ (v : Loaded). addOutcome g w (walkFrom (firstFrom v i) m i)) h)
+    same_words (note_first m y x g) (note_mib m at g) 0 (length l) l (λ (i : ℕ) a (w : ℕ). ap (λ (v : FirstLevel). add_outcome g w (walk_from (again v x i) m i)) e ∙ ap (λ (v : FirstLevel). add_outcome g w (walk_from v m i)) (sym (first_again x i)) ∙ ap (λ (v : Loaded). add_outcome g w (walk_from (first_from v i) m i)) h)
 
 -- the pages of a level-one descriptor that lies outside memory stay as they are
-pub by-none : (m : List ℕ) (at g : ℕ) (l : List ℕ) → Outside ≡ loadAt Four m at → l ≡ mapWords (noteMib m at g) l
-by-none m at g l h =
-    rest-stays (noteMib m at g) 0 0 l (λ (i : ℕ) a b (w : ℕ). ap (λ (v : Loaded). addOutcome g w (walkFrom (firstFrom v i) m i)) h)
+pub by_none : (m : List ℕ) (at g : ℕ) (l : List ℕ) → Outside ≡ load_at Four m at → l ≡ map_words (note_mib m at g) l
+by_none m at g l h =
+    rest_stays (note_mib m at g) 0 0 l (λ (i : ℕ) a b (w : ℕ). ap (λ (v : Loaded). add_outcome g w (walk_from (first_from v i) m i)) h)
 
 -- and so do those of a level-one descriptor that maps nothing
-pub no_change : (l : List ℕ) → l ≡ mapWords (λ (i w : ℕ). w) l
-no_change l = rest-stays (λ (i w : ℕ). w) 0 0 l (λ (i : ℕ) a b (w : ℕ). refl)
+pub no_change : (l : List ℕ) → l ≡ map_words (λ (i w : ℕ). w) l
+no_change l = rest_stays (λ (i w : ℕ). w) 0 0 l (λ (i : ℕ) a b (w : ℕ). refl)
 
 -- a word of a table that lies in memory
-pub table-word : (m : List ℕ) (t : Pointer) (i v : ℕ) → i < mibPages → t.base + 4 * i + 4 ≤ length m → v ≡ number_at Four m (t.base + 4 * i) → second_of v i t.domain ≡ secondAt m t i
-unfolding secondAt loadAt within
-table-word m t i v h q e =
-    let in-mib : i % mibPages ≡ i = omega (arith, h) in
+pub table_word : (m : List ℕ) (t : Pointer) (i v : ℕ) → i < mib_pages → t.base + 4 * i + 4 ≤ length m → v ≡ number_at Four m (t.base + 4 * i) → second_of v i t.domain ≡ second_at m t i
+unfolding second_at load_at within
+table_word m t i v h q e =
+    let in-mib : i % mib_pages ≡ i = omega (arith, h) in
     rw (in-mib, le-leb (t.base + 4 * i + 4) (length m) q, e)
 
 -- a page whose word of the table lies outside memory stays as it is
-outside-stays : (m : List ℕ) (t : Pointer) (g i w : ℕ) → i < mibPages → length m < t.base + 4 * i + 4 → w ≡ noteTable m t g i w
-unfolding secondAt loadAt within
-outside-stays m t g i w h q =
-    let in-mib : i % mibPages ≡ i = omega (arith, h) in
+outside_stays : (m : List ℕ) (t : Pointer) (g i w : ℕ) → i < mib_pages → length m < t.base + 4 * i + 4 → w ≡ note_table m t g i w
+unfolding second_at load_at within
+outside_stays m t g i w h q =
+    let in-mib : i % mib_pages ≡ i = omega (arith, h) in
     rw (in-mib, lt-leb (t.base + 4 * i + 4) (length m) q)
 
 -- the pages of a table whose first n words lie in memory, and the next does not
-pub by-table : (m : List ℕ) (t : Pointer) (g n : ℕ) (l row : List ℕ) → length l ≤ mibPages → (n < length l → length m < t.base + 4 * n + 4) → row ≡ mapFirst (noteTable m t g) 0 n l → row ≡ mapWords (noteTable m t g) l
-by-table m t g n l row k h e =
-    e ∙ rest-stays (noteTable m t g) 0 n l (λ (i : ℕ) a b (w : ℕ). outside-stays m t g i w (omega (arith, a, b, k)) (omega (arith, a, b, h (omega (arith, a, b)))))
+pub by_table : (m : List ℕ) (t : Pointer) (g n : ℕ) (l row : List ℕ) → length l ≤ mib_pages → (n < length l → length m < t.base + 4 * n + 4) → row ≡ map_first (note_table m t g) 0 n l → row ≡ map_words (note_table m t g) l
+by_table m t g n l row k h e =
+    e ∙ rest_stays (note_table m t g) 0 n l (λ (i : ℕ) a b (w : ℕ). outside_stays m t g i w (omega (arith, a, b, k)) (omega (arith, a, b, h (omega (arith, a, b)))))

@@ -3,11 +3,11 @@
 // context's row, 1 for the global row.
 ghost use Rattle.std.specs.Prelude.{◌≡◌, true, ◌+◌, ◌*◌, ◌<◌, ◌≤◌, length};
 ghost use Rattle.model.specs.declared.Size.TheVariants.{Four};
-ghost use Rattle.model.specs.Limits.{rowSize};
+ghost use Rattle.model.specs.Limits.{row_size};
 ghost use Rattle.model.specs.step.Memory.{number_at};
-ghost use Rattle.model.specs.step.Rows.{mapWords, in_row};
-ghost use Rattle.model.specs.step.Track.{addOutcome, notePage, noteRow, noteTrack};
-ghost use Rattle.noting.specs.Mib.{mibPages, noteSection, noteTable, noteMib, word_for, Stays, Both};
+ghost use Rattle.model.specs.step.Rows.{map_words, in_row};
+ghost use Rattle.model.specs.step.Track.{add_outcome, note_page, note_row, note_track};
+ghost use Rattle.noting.specs.Mib.{mib_pages, note_section, note_table, note_mib, word_for, Stays, Both};
 
 use descriptor::{first_of, second_of, section_entry};
 use limits::{last_row, row_size, row_start, rows};
@@ -15,12 +15,12 @@ use memory::{load, number};
 use model::{FirstLevel, Loaded, Outcome, Pointer, Size, Tables};
 use track::add_entry;
 
-// How many pages a MiB has: mibPages.
+// How many pages a MiB has: mib_pages.
 const MIB: usize = 256;
 
 // A word of a row of this kind after noting what the walk of its page found.
 pub fn add_outcome(global: u32, w: u32, o: Outcome) -> u32
-    ensures { result ≡ addOutcome global w o }
+    ensures { result ≡ add_outcome global w o }
 {
     match o {
         Outcome::Mapped(e) => {
@@ -35,7 +35,7 @@ pub fn add_outcome(global: u32, w: u32, o: Outcome) -> u32
 
 // Notes the pages of a MiB by its section, whose word is x: word i is that of page i.
 fn note_section(x: u32, global: u32, mib: &mut [u32])
-    ensures { mib.new ≡ mapWords (noteSection x global) mib.old }
+    ensures { mib.new ≡ map_words (note_section x global) mib.old }
 {
     let mut i = 0;
     while i < mib.len() {
@@ -69,8 +69,8 @@ fn words_inside(m: &[u8], base: usize, n: usize) -> usize
 
 // Notes the pages of a MiB by a table: word i is that of page i. A page whose descriptor lies outside memory stays as it is.
 fn note_table(m: &[u8], table: Pointer, global: u32, mib: &mut [u32])
-    requires { length mib.old ≤ mibPages }
-    ensures { mib.new ≡ mapWords (noteTable m.now table global) mib.old }
+    requires { length mib.old ≤ mib_pages }
+    ensures { mib.new ≡ map_words (note_table m.now table global) mib.old }
 {
     let base = table.base as usize;
     let n = words_inside(m, base, mib.len());
@@ -84,8 +84,8 @@ fn note_table(m: &[u8], table: Pointer, global: u32, mib: &mut [u32])
 
 // Notes the pages of the MiB whose level-one descriptor stands at `at`: word i is that of page i.
 fn note_mib(m: &[u8], at: usize, global: u32, mib: &mut [u32])
-    requires { length mib.old ≤ mibPages }
-    ensures { mib.new ≡ mapWords (noteMib m.now at global) mib.old }
+    requires { length mib.old ≤ mib_pages }
+    ensures { mib.new ≡ map_words (note_mib m.now at global) mib.old }
 {
     if let Loaded::Value(x) = load(m, at, Size::Four) {
         match first_of(x, 0) {
@@ -99,7 +99,7 @@ fn note_mib(m: &[u8], at: usize, global: u32, mib: &mut [u32])
 // Where the MiB that starts at `page` ends, in a row of n words.
 fn mib_end(page: usize, n: usize) -> usize
     requires { page < n }
-    ensures { (page < result) × ((result ≤ n) × ((result ≤ page + mibPages) × (result < n → result ≡ page + mibPages))) }
+    ensures { (page < result) × ((result ≤ n) × ((result ≤ page + mib_pages) × (result < n → result ≡ page + mib_pages))) }
 {
     if n - page < MIB {
         return n;
@@ -109,7 +109,7 @@ fn mib_end(page: usize, n: usize) -> usize
 
 // Notes a row of this kind: each of its words is one page's. The pages of a MiB share a level-one descriptor, which is read once.
 pub fn note_row(m: &[u8], tables: Tables, global: u32, row: &mut [u32])
-    ensures { row.new ≡ noteRow m.now tables global row.old }
+    ensures { row.new ≡ note_row m.now tables global row.old }
 {
     let mut page = 0;
     while page < row.len() {
@@ -122,7 +122,7 @@ pub fn note_row(m: &[u8], tables: Tables, global: u32, row: &mut [u32])
 
 // Notes one row of a track, where the track has it.
 fn note_in(window: u32, m: &[u8], tables: Tables, global: u32, track: &mut [u32], row: usize)
-    ensures { track.new ≡ in_row (rowSize window) row (noteRow m.now tables global) track.old }
+    ensures { track.new ≡ in_row (row_size window) row (note_row m.now tables global) track.old }
 {
     if row < rows(window, track.len()) {
         let size = row_size(window);
@@ -163,8 +163,8 @@ fn changes(own: u32, shared: u32, o: Outcome) -> u32
 
 // How many pages of a MiB noting by its section, whose word is x, would change.
 fn changes_by_section(x: u32, own: &[u32], shared: &[u32]) -> u32
-    requires { (length own.now ≤ mibPages) × (length shared.now ≡ length own.now) }
-    ensures { result ≡ 0 → Both (noteSection x) own.now shared.now }
+    requires { (length own.now ≤ mib_pages) × (length shared.now ≡ length own.now) }
+    ensures { result ≡ 0 → Both (note_section x) own.now shared.now }
 {
     let mut count = 0;
     let mut i = 0;
@@ -177,8 +177,8 @@ fn changes_by_section(x: u32, own: &[u32], shared: &[u32]) -> u32
 
 // How many pages of a MiB noting by a table would change.
 fn changes_by_table(m: &[u8], table: Pointer, own: &[u32], shared: &[u32]) -> u32
-    requires { (length own.now ≤ mibPages) × (length shared.now ≡ length own.now) }
-    ensures { result ≡ 0 → Both (noteTable m.now table) own.now shared.now }
+    requires { (length own.now ≤ mib_pages) × (length shared.now ≡ length own.now) }
+    ensures { result ≡ 0 → Both (note_table m.now table) own.now shared.now }
 {
     let base = table.base as usize;
     let n = words_inside(m, base, own.len());
@@ -197,8 +197,8 @@ fn changes_by_table(m: &[u8], table: Pointer, own: &[u32], shared: &[u32]) -> u3
 
 // How many pages noting would change of the MiB whose level-one descriptor stands at `at`.
 fn changes_of_mib(m: &[u8], at: usize, own: &[u32], shared: &[u32]) -> u32
-    requires { (length own.now ≤ mibPages) × (length shared.now ≡ length own.now) }
-    ensures { result ≡ 0 → Both (noteMib m.now at) own.now shared.now }
+    requires { (length own.now ≤ mib_pages) × (length shared.now ≡ length own.now) }
+    ensures { result ≡ 0 → Both (note_mib m.now at) own.now shared.now }
 {
     if let Loaded::Value(x) = load(m, at, Size::Four) {
         return match first_of(x, 0) {
@@ -213,7 +213,7 @@ fn changes_of_mib(m: &[u8], at: usize, own: &[u32], shared: &[u32]) -> u32
 // Whether noting leaves a context's row and the global row as they are.
 fn rows_settled(m: &[u8], tables: Tables, own: &[u32], shared: &[u32]) -> bool
     requires { length shared.now ≡ length own.now }
-    ensures { result ≡ true → Both (notePage m.now tables) own.now shared.now }
+    ensures { result ≡ true → Both (note_page m.now tables) own.now shared.now }
 {
     let mut page = 0;
     while page < own.len() {
@@ -229,7 +229,7 @@ fn rows_settled(m: &[u8], tables: Tables, own: &[u32], shared: &[u32]) -> bool
 
 // Whether noting leaves a track as it is; false also where the context has no row of its own.
 fn is_settled(window: u32, m: &[u8], tables: Tables, track: &[u32], context: usize) -> bool
-    ensures { result ≡ true → track.now ≡ noteTrack window m.now tables context track.now }
+    ensures { result ≡ true → track.now ≡ note_track window m.now tables context track.now }
 {
     let last = last_row(window, track.len());
     if context < last {
@@ -245,7 +245,7 @@ fn is_settled(window: u32, m: &[u8], tables: Tables, track: &[u32], context: usi
 
 // Notes the row of a context, where the track has it, then the global row.
 pub fn note_rows(window: u32, m: &[u8], tables: Tables, track: &mut [u32], context: usize)
-    ensures { track.new ≡ noteTrack window m.now tables context track.old }
+    ensures { track.new ≡ note_track window m.now tables context track.old }
 {
     let last = last_row(window, track.len());
     note_in(window, m, tables, 0, track, context);
@@ -254,7 +254,7 @@ pub fn note_rows(window: u32, m: &[u8], tables: Tables, track: &mut [u32], conte
 
 // The same, but that it looks first whether anything is to be noted: what to call where mostly nothing is.
 pub fn note(window: u32, m: &[u8], tables: Tables, track: &mut [u32], context: usize)
-    ensures { track.new ≡ noteTrack window m.now tables context track.old }
+    ensures { track.new ≡ note_track window m.now tables context track.old }
 {
     if is_settled(window, m, tables, track, context) {
         return;

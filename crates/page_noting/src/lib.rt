@@ -1,9 +1,9 @@
 // Noting of one page: what the tables map there now is added to its sets in the row of a context and in the global row.
 ghost use Rattle.std.specs.Prelude.{◌≡◌, get_or, set};
-ghost use Rattle.model.specs.Limits.{rowSize};
+ghost use Rattle.model.specs.Limits.{row_size};
 ghost use Rattle.model.specs.step.Rows.{in_row};
-ghost use Rattle.model.specs.step.Track.{addOutcome};
-ghost use Rattle.runs.specs.Step.{noteFound, noteOnePage};
+ghost use Rattle.model.specs.step.Track.{add_outcome};
+ghost use Rattle.runs.specs.Step.{note_found, note_one_page};
 
 use limits::{last_row, row_size, row_start, rows};
 use model::{Outcome, Tables};
@@ -11,7 +11,7 @@ use noting::add_outcome;
 
 // Notes a page of a row of this kind, by what its walk found.
 fn note_found(row: &mut [u32], global: u32, page: usize, o: Outcome)
-    ensures { row.new ≡ noteFound global page o row.old }
+    ensures { row.new ≡ note_found global page o row.old }
 {
     if page < row.len() {
         let w = row[page];
@@ -21,7 +21,7 @@ fn note_found(row: &mut [u32], global: u32, page: usize, o: Outcome)
 
 // Notes it in one row of a track, where the track has it.
 fn note_in(window: u32, track: &mut [u32], row: usize, global: u32, page: usize, o: Outcome)
-    ensures { track.new ≡ in_row (rowSize window) row (noteFound global page o) track.old }
+    ensures { track.new ≡ in_row (row_size window) row (note_found global page o) track.old }
 {
     if row < rows(window, track.len()) {
         let size = row_size(window);
@@ -40,7 +40,7 @@ pub fn note_page(
     context: usize,
     page: usize,
 )
-    ensures { track.new ≡ noteOnePage window m.now tables context page track.old }
+    ensures { track.new ≡ note_one_page window m.now tables context page track.old }
 {
     let last = last_row(window, track.len());
     let o = walk::walk(m, tables, page);

@@ -40,8 +40,8 @@ answers =
     each aps (λ ap. each modes (λ mode. each kinds (λ kind. each fields (λ field. each xns (λ xn. answer (ruling ap mode kind field xn) ∷ [])))))
 
 -- the answer at a place, counted from 0; 3 where there is no such place
-unfoldable pub answerAt : ℕ → ℕ
-answerAt place = get_or answers place 3
+unfoldable pub answer_at : ℕ → ℕ
+answer_at place = get_or answers place 3
 
 -- an answer a line: its digit and a newline
 unfoldable pub lines_of : List ℕ → List ℕ

@@ -1,8 +1,8 @@
 // What access permissions and domains allow, computed from the rules, and the sheet of all 384 answers as text.
 ghost use Rattle.std.specs.Prelude.{◌≡◌, length};
 ghost use Rattle.model.specs.Telling.{Tells};
-ghost use Rattle.model.specs.step.Rights.{between, kernelRights, userRights, rightsOf, permitted, rulingOf};
-ghost use Rattle.permissions.specs.Sheet.{answer, answerAt, sheet};
+ghost use Rattle.model.specs.step.Rights.{between, kernel_rights, user_rights, rights_of, permitted, ruling_of};
+ghost use Rattle.permissions.specs.Sheet.{answer, answer_at, sheet};
 ghost use Rattle.permissions.specs.Places.{kind_at};
 
 use model::{Purpose, Ruling};
@@ -19,7 +19,7 @@ fn between(low: u32, high: u32, x: u32) -> bool
 
 // What the kernel may do where an entry has these permissions: 0 nothing, 1 reading, 2 reading and writing.
 pub fn kernel_rights(ap: u32) -> u32
-    ensures { result ≡ kernelRights ap }
+    ensures { result ≡ kernel_rights ap }
 {
     if between(1, 3, ap) {
         return 2;
@@ -32,7 +32,7 @@ pub fn kernel_rights(ap: u32) -> u32
 
 // What the user may do.
 pub fn user_rights(ap: u32) -> u32
-    ensures { result ≡ userRights ap }
+    ensures { result ≡ user_rights ap }
 {
     if ap == 3 {
         return 2;
@@ -48,7 +48,7 @@ pub fn user_rights(ap: u32) -> u32
 
 // What a mode may do.
 pub fn rights_of(ap: u32, mode: u32) -> u32
-    ensures { result ≡ rightsOf ap mode }
+    ensures { result ≡ rights_of ap mode }
 {
     if mode == 0 {
         return kernel_rights(ap);
@@ -75,7 +75,7 @@ pub fn permitted(ap: u32, mode: u32, purpose: Purpose, xn: u32) -> bool
 
 // What is said of an access, by the field of the entry's domain: 3 allows everything, 1 what is permitted, and any other field nothing.
 pub fn by_rules(ap: u32, mode: u32, purpose: Purpose, field: u32, xn: u32) -> Ruling
-    ensures { Tells answer (rulingOf ap mode purpose field xn) result }
+    ensures { Tells answer (ruling_of ap mode purpose field xn) result }
 {
     if field == 3 {
         return Ruling::Allowed;
@@ -118,7 +118,7 @@ fn kind_at(place: usize) -> Purpose
 
 // The answer at a place, by the rules; 3 where there is no such place.
 pub fn compute(place: usize) -> u8
-    ensures { result ≡ answerAt place }
+    ensures { result ≡ answer_at place }
 {
     if PLACES <= place {
         return 3;

@@ -1,8 +1,8 @@
 // Whether a store is quiet: it touches no byte that a present walk uses. The test goes over the level-one words of the window alone.
 ghost use Rattle.std.specs.Prelude.{◌≡◌};
 ghost use Rattle.model.specs.step.Memory.{bytes_of};
-ghost use Rattle.model.specs.step.Walk.{descriptorAt, firstFrom};
-ghost use Rattle.runs.specs.Quiet.{overlap, touchesTable, touchesTables, quiet};
+ghost use Rattle.model.specs.step.Walk.{descriptor_at, first_from};
+ghost use Rattle.runs.specs.Quiet.{overlap, touches_table, touches_tables, quiet};
 
 use descriptor::first_of;
 use memory::{bytes, load};
@@ -20,18 +20,18 @@ fn overlaps(a: usize, n: usize, b: usize, k: usize) -> bool
 
 // Whether the n bytes from `at` on touch the table that a level-one word points to, if it points to one.
 fn touches_table(x: FirstLevel, at: usize, n: usize) -> bool
-    ensures { result ≡ touchesTable x at n }
+    ensures { result ≡ touches_table x at n }
 {
     match x {
         FirstLevel::Failing(_) => false,
         FirstLevel::Section(_) => false,
-        FirstLevel::Table(table) => overlaps(at, n, table.base as usize, 1024), // tableSize
+        FirstLevel::Table(table) => overlaps(at, n, table.base as usize, 1024), // table_size
     }
 }
 
 // Whether they touch the table of the MiB whose level-one word stands at `first`.
 fn touches_mib(m: &[u8], first: usize, at: usize, n: usize) -> bool
-    ensures { result ≡ touchesTable (firstFrom (descriptorAt m.now first) 0) at n }
+    ensures { result ≡ touches_table (first_from (descriptor_at m.now first) 0) at n }
 {
     match load(m, first, Size::Four) {
         Loaded::Value(w) => touches_table(first_of(w, 0), at, n),
@@ -41,7 +41,7 @@ fn touches_mib(m: &[u8], first: usize, at: usize, n: usize) -> bool
 
 // Whether they touch the table of one of the first `mibs` MiB.
 fn touches_tables(m: &[u8], tables: Tables, mibs: u32, at: usize, n: usize) -> bool
-    ensures { result ≡ touchesTables m.now tables mibs at n }
+    ensures { result ≡ touches_tables m.now tables mibs at n }
 {
     let mut i = mibs as usize;
     while 0 < i {

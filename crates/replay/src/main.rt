@@ -21,7 +21,7 @@ fn read_list(wanted: bool, buf: &mut [u8]) -> Got
 }
 
 // The buffers come from functions that ensure their lengths: a proof never computes with their elements. The list's and the image's
-// are one byte longer than listLimit and imageLimit, so that 'too long' is seen; the others have trackLength and reportLimit.
+// are one byte longer than list_limit and image_limit, so that 'too long' is seen; the others have track_length and report_limit.
 fn list_buffer() -> [u8; 65537]
     ensures { 65537 ≡ length result }
 {

@@ -8,10 +8,10 @@ use lib.Dec.{leb}
 use lib.ListN.{length, length-append, take, drop}
 use borrow.Author.Tests.{lt-ltb, le-ltb, eq-eqb, ne_eqb, ltb-false}
 use Rattle.text.specs.Split.{past}
-use Rattle.text.specs.Put.{over, wrote, placeAfter}
-use Rattle.text.proofs.PutLaws.{over-over, wrote-fits}
-use Rattle.model.specs.Limits.{oldWindow}
-use Rattle.model.specs.Numbers.{refused, refusalNumber, shown}
+use Rattle.text.specs.Put.{over, wrote, place_after}
+use Rattle.text.proofs.PutLaws.{over_over, wrote_fits}
+use Rattle.model.specs.Limits.{old_window}
+use Rattle.model.specs.Numbers.{refused, refusal_number, shown}
 use Rattle.model.specs.declared.Answer.{Answer}
 use Rattle.model.specs.declared.Answer.TheVariants.{Done, Faulted, Refused}
 use Rattle.model.specs.declared.Fault.{Fault}
@@ -19,51 +19,51 @@ use Rattle.model.specs.declared.Operation.{Operation}
 use Rattle.model.specs.declared.Refusal.{Refusal}
 use Rattle.model.specs.declared.Registers.{Registers}
 use Rattle.model.specs.declared.Check.{Check}
-use Rattle.model.specs.step.Checks.{startChecks, firstFailing}
+use Rattle.model.specs.step.Checks.{start_checks, first_failing}
 use Rattle.model.specs.declared.Returned.{Returned}
 use Rattle.model.specs.step.Machine.{After, Gives, started}
 use Rattle.model.specs.reference.Rules.{State}
-use Rattle.model.specs.reference.Runs.{last, checkerRun, is_refused}
+use Rattle.model.specs.reference.Runs.{last, checker_run, is_refused}
 use Rattle.runs.specs.Noted.{Noted}
-use Rattle.runs.proofs.Noted.{noted-start}
+use Rattle.runs.proofs.Noted.{noted_start}
 use Rattle.names.specs.Names.{newline}
 use Rattle.listing.specs.declared.Reason.{Reason}
 use Rattle.listing.specs.declared.Reason.TheVariants.{TooLong, Names}
-use Rattle.listing.specs.Whole.{listLimit, listNumber, tooLong, hasNames, Ending, Reading, stoppedAt, readRest, readList}
-use Rattle.report_line.specs.Text.{header, noName, startName, reportLine, lineRoom}
+use Rattle.listing.specs.Whole.{list_limit, list_number, too_long, has_names, Ending, Reading, stopped_at, read_rest, read_list}
+use Rattle.report_line.specs.Text.{header, no_name, start_name, report_line, line_room}
 use Rattle.report.specs.declared.Told.{Told}
 use Rattle.report.specs.declared.Told.TheVariants.{Report, ShortBuffer, WrongTrack, WrongCounts}
-use Rattle.report.specs.Report.{setting, answerLines, answerText, Left, replayed, afterStart, body_of, headed, reportOf, imageLimit, memoryLength, trackLength, passes, looksAtList, reportLimit, Ran, ReportCall, unchanged, reported, called, GivesReport}
-use Rattle.report.proofs.LinesLaws.{ended, stopped-at}
+use Rattle.report.specs.Report.{setting, answer_lines, answer_text, Left, replayed, after_start, body_of, headed, report_of, image_limit, memory_length, track_length, passes, looks_at_list, report_limit, Ran, ReportCall, unchanged, reported, called, GivesReport}
+use Rattle.report.proofs.LinesLaws.{ended, stopped_at_lem}
 
 -- ── The list ──
 
-pub read-long : (l : List ℕ) → tooLong l ≡ true → readList l ≡ stoppedAt 1 TooLong
-unfolding readList
-read-long l h = rw h
+pub read_long : (l : List ℕ) → too_long l ≡ true → read_list l ≡ stopped_at 1 TooLong
+unfolding read_list
+read_long l h = rw h
 
-pub read_names : (l : List ℕ) → tooLong l ≡ false → hasNames l ≡ true → readList l ≡ readRest (past newline l)
-unfolding readList
+pub read_names : (l : List ℕ) → too_long l ≡ false → has_names l ≡ true → read_list l ≡ read_rest (past newline l)
+unfolding read_list
 read_names l h k = rw (h, k)
 
-pub read_none : (l : List ℕ) → tooLong l ≡ false → hasNames l ≡ false → readList l ≡ stoppedAt 1 Names
-unfolding readList
+pub read_none : (l : List ℕ) → too_long l ≡ false → has_names l ≡ false → read_list l ≡ stopped_at 1 Names
+unfolding read_list
 read_none l h k = rw (h, k)
 
-pub not-long : (l : List ℕ) → tooLong l ≡ false → length l ≤ listLimit
-unfolding tooLong
-not-long l h = ltb-false listLimit (length l) h
+pub not_long : (l : List ℕ) → too_long l ≡ false → length l ≤ list_limit
+unfolding too_long
+not_long l h = ltb-false list_limit (length l) h
 
 -- ── A part of the report ──
 
-pub ran-same : (r r' : Left) {d : List ℕ} {at p : ℕ} {m t out : List ℕ} → r ≡ r' → Ran r d at p m t out → Ran r' d at p m t out
-ran-same r r' {d} {at} {p} {m} {t} {out} e w = subst (λ (z : Left). Ran z d at p m t out) e w
+pub ran_same : (r r' : Left) {d : List ℕ} {at p : ℕ} {m t out : List ℕ} → r ≡ r' → Ran r d at p m t out → Ran r' d at p m t out
+ran_same r r' {d} {at} {p} {m} {t} {out} e w = subst (λ (z : Left). Ran z d at p m t out) e w
 
 -- a line that ends the report
-pub ran-ended : (r : Left) (s : List ℕ) (x : After) {d : List ℕ} {at p : ℕ} {m t out : List ℕ} → r ≡ ended s x → m ≡ x.memory → t ≡ x.track → at + lineRoom ≤ length d →
-    (p ≡ placeAfter lineRoom d at s) × (out ≡ wrote lineRoom d at s) → Ran r d at p m t out
-ran-ended r s x {d} {at} {p} {m} {t} {out} e a b h q =
-    let f = wrote-fits lineRoom d at s p out h q in
+pub ran_ended : (r : Left) (s : List ℕ) (x : After) {d : List ℕ} {at p : ℕ} {m t out : List ℕ} → r ≡ ended s x → m ≡ x.memory → t ≡ x.track → at + line_room ≤ length d →
+    (p ≡ place_after line_room d at s) × (out ≡ wrote line_room d at s) → Ran r d at p m t out
+ran_ended r s x {d} {at} {p} {m} {t} {out} e a b h q =
+    let f = wrote_fits line_room d at s p out h q in
     record {
       memory = a ∙ sym (ap (λ (k : Left). k.memory) e);
       track = b ∙ sym (ap (λ (k : Left). k.track) e);
@@ -71,110 +71,110 @@ ran-ended r s x {d} {at} {p} {m} {t} {out} e a b h q =
       bytes = f.1 ∙ sym (ap (λ (k : Left). over d at k.text) e);
     }
 
-pub ran-stopped : (x : After) (l : List ℕ) (w : Reason) (k : ℕ) {d : List ℕ} {at p : ℕ} {out : List ℕ} → readList l ≡ stoppedAt 1 w → at + lineRoom ≤ length d → k ≡ listNumber w →
-    (p ≡ placeAfter lineRoom d at (reportLine 1 noName (refused k))) × (out ≡ wrote lineRoom d at (reportLine 1 noName (refused k))) →
-    Ran (replayed 2 x (readList l)) d at p x.memory x.track out
-ran-stopped x l w k e h f q =
-    ran-ended (replayed 2 x (readList l)) (reportLine 1 noName (refused k)) x
-    (ap (replayed 2 x) e ∙ stopped-at 2 1 x w ∙ ap (λ (n : ℕ). ended (reportLine 1 noName (refused n)) x) (sym f)) refl refl h q
+pub ran_stopped : (x : After) (l : List ℕ) (w : Reason) (k : ℕ) {d : List ℕ} {at p : ℕ} {out : List ℕ} → read_list l ≡ stopped_at 1 w → at + line_room ≤ length d → k ≡ list_number w →
+    (p ≡ place_after line_room d at (report_line 1 no_name (refused k))) × (out ≡ wrote line_room d at (report_line 1 no_name (refused k))) →
+    Ran (replayed 2 x (read_list l)) d at p x.memory x.track out
+ran_stopped x l w k e h f q =
+    ran_ended (replayed 2 x (read_list l)) (report_line 1 no_name (refused k)) x
+    (ap (replayed 2 x) e ∙ stopped_at_lem 2 1 x w ∙ ap (λ (n : ℕ). ended (report_line 1 no_name (refused n)) x) (sym f)) refl refl h q
 
 -- ── The start ──
 
 -- what is carried out does not depend on the answer that went before
-answer-apart : (a b : Answer) (r : Registers) (m t : List ℕ) (n : ℕ) (os : List Operation) (e : Ending) →
+answer_apart : (a b : Answer) (r : Registers) (m t : List ℕ) (n : ℕ) (os : List Operation) (e : Ending) →
     replayed n (record { answer = a; registers = r; memory = m; track = t }) (record { operations = os; ending = e })
     ≡ replayed n (record { answer = b; registers = r; memory = m; track = t }) (record { operations = os; ending = e })
-unfolding checkerRun last
-answer-apart a b r m t n [] e = refl
-answer-apart a b r m t n (o ∷ os) e = refl
+unfolding checker_run last
+answer_apart a b r m t n [] e = refl
+answer_apart a b r m t n (o ∷ os) e = refl
 
 pub carried_from : (x : After) (r : Registers) (m t : List ℕ) (l : Reading) → r ≡ x.registers → m ≡ x.memory → t ≡ x.track →
     replayed 2 (record { answer = Done 0; registers = r; memory = m; track = t }) l ≡ replayed 2 x l
 carried_from x r m t l e f g =
     ap (λ (z : Registers). replayed 2 (record { answer = Done 0; registers = z; memory = m; track = t }) l) e
     ∙ ap₂ (λ (y z : List ℕ). replayed 2 (record { answer = Done 0; registers = x.registers; memory = y; track = z }) l) f g
-    ∙ answer-apart (Done 0) x.answer x.registers x.memory x.track 2 l.operations l.ending
+    ∙ answer_apart (Done 0) x.answer x.registers x.memory x.track 2 l.operations l.ending
 
 -- what a start that is not refused returns and leaves: the track is noted
-pub noted-from : (m t : List ℕ) (x : Returned) (l u : List ℕ) → Gives (started m t setting) x l u → is_refused (shown x.answer) ≡ false →
-    Noted oldWindow (record { memory = l; registers = x.registers }) u
-noted-from m t x l u g q =
-    subst₂ (λ (s : State) (v : List ℕ). Noted oldWindow s v) (λ i. record { memory = sym g.memory i; registers = sym g.registers i }) (sym g.track)
-    (noted-start m t setting (ap (λ (a : Answer). is_refused (shown a)) (sym g.answer) ∙ q))
+pub noted_from : (m t : List ℕ) (x : Returned) (l u : List ℕ) → Gives (started m t setting) x l u → is_refused (shown x.answer) ≡ false →
+    Noted old_window (record { memory = l; registers = x.registers }) u
+noted_from m t x l u g q =
+    subst₂ (λ (s : State) (v : List ℕ). Noted old_window s v) (λ i. record { memory = sym g.memory i; registers = sym g.registers i }) (sym g.track)
+    (noted_start m t setting (ap (λ (a : Answer). is_refused (shown a)) (sym g.answer) ∙ q))
 
-pub done-kept : (a : Answer) (v : ℕ) → a ≡ Done v → is_refused (shown a) ≡ false
+pub done_kept : (a : Answer) (v : ℕ) → a ≡ Done v → is_refused (shown a) ≡ false
 unfolding is_refused
-done-kept a v e = ap (λ (z : Answer). is_refused (shown z)) e
+done_kept a v e = ap (λ (z : Answer). is_refused (shown z)) e
 
-pub faulted-kept : (a : Answer) (f : Fault) → a ≡ Faulted f → is_refused (shown a) ≡ false
+pub faulted_kept : (a : Answer) (f : Fault) → a ≡ Faulted f → is_refused (shown a) ≡ false
 unfolding is_refused
-faulted-kept a f e = ap (λ (z : Answer). is_refused (shown z)) e
+faulted_kept a f e = ap (λ (z : Answer). is_refused (shown z)) e
 
 module _ (m t l : List ℕ) where
-  pub body_refused : (n : Refusal) → (started m t setting).answer ≡ Refused n → body_of m t l ≡ ended (reportLine 0 startName (refused (refusalNumber n))) (started m t setting)
+  pub body_refused : (n : Refusal) → (started m t setting).answer ≡ Refused n → body_of m t l ≡ ended (report_line 0 start_name (refused (refusal_number n))) (started m t setting)
   unfolding body_of
-  body_refused n e = ap (λ (a : Answer). afterStart a (started m t setting) l) e
+  body_refused n e = ap (λ (a : Answer). after_start a (started m t setting) l) e
 
-  pub body-done : (v : ℕ) → (started m t setting).answer ≡ Done v → body_of m t l ≡ replayed 2 (started m t setting) (readList l)
+  pub body_done : (v : ℕ) → (started m t setting).answer ≡ Done v → body_of m t l ≡ replayed 2 (started m t setting) (read_list l)
   unfolding body_of
-  body-done v e = ap (λ (a : Answer). afterStart a (started m t setting) l) e
+  body_done v e = ap (λ (a : Answer). after_start a (started m t setting) l) e
 
-  pub body-faulted : (f : Fault) → (started m t setting).answer ≡ Faulted f → body_of m t l ≡ replayed 2 (started m t setting) (readList l)
+  pub body_faulted : (f : Fault) → (started m t setting).answer ≡ Faulted f → body_of m t l ≡ replayed 2 (started m t setting) (read_list l)
   unfolding body_of
-  body-faulted f e = ap (λ (a : Answer). afterStart a (started m t setting) l) e
+  body_faulted f e = ap (λ (a : Answer). after_start a (started m t setting) l) e
 
 -- ── The header ──
 
-pub ran-headed : (r : Left) {d : List ℕ} {at p : ℕ} {m t out out' : List ℕ} → length header ≤ length d →
-    (at ≡ placeAfter (length header) d 0 header) × (out ≡ wrote (length header) d 0 header) → Ran r out at p m t out' → Ran (headed r) d 0 p m t out'
-ran-headed r {d} {at} {p} {m} {t} {out} {out'} h q w =
-    let f = wrote-fits (length header) d 0 header at out (omega arith) q in
+pub ran_headed : (r : Left) {d : List ℕ} {at p : ℕ} {m t out out' : List ℕ} → length header ≤ length d →
+    (at ≡ place_after (length header) d 0 header) × (out ≡ wrote (length header) d 0 header) → Ran r out at p m t out' → Ran (headed r) d 0 p m t out'
+ran_headed r {d} {at} {p} {m} {t} {out} {out'} h q w =
+    let f = wrote_fits (length header) d 0 header at out (omega arith) q in
     record {
       memory = w.memory;
       track = w.track;
       place = omega (arith, w.place, f.0, length-append header r.text);
-      bytes = w.bytes ∙ ap₂ (λ (o : List ℕ) (k : ℕ). over o k r.text) f.1 f.0 ∙ over-over d 0 header (omega arith) r.text;
+      bytes = w.bytes ∙ ap₂ (λ (o : List ℕ) (k : ℕ). over o k r.text) f.1 f.0 ∙ over_over d 0 header (omega arith) r.text;
     }
 
 -- ── A call ──
 
-pub memory-fits : (n k : ℕ) → n ≤ k → memoryLength n ≤ k
-memory-fits n k h = go (leb n imageLimit)
+pub memory_fits : (n k : ℕ) → n ≤ k → memory_length n ≤ k
+memory_fits n k h = go (leb n image_limit)
   where
     go : (b : Bool) → cond b n 0 ≤ k
     go true = h
     go false = omega arith
 
 -- what the check of a start says of looking at the list
-pub looked : (n k : ℕ) (x y : Check) → k ≡ memoryLength n → x ≡ firstFailing (startChecks k trackLength setting) → x ≡ y → passes y ≡ looksAtList n
-unfolding looksAtList
-looked n k x y e f g = ap passes (sym g ∙ f) ∙ ap (λ (z : ℕ). passes (firstFailing (startChecks z trackLength setting))) e
+pub looked : (n k : ℕ) (x y : Check) → k ≡ memory_length n → x ≡ first_failing (start_checks k track_length setting) → x ≡ y → passes y ≡ looks_at_list n
+unfolding looks_at_list
+looked n k x y e f g = ap passes (sym g ∙ f) ∙ ap (λ (z : ℕ). passes (first_failing (start_checks z track_length setting))) e
 
 module _ (i : List ℕ) (n : ℕ) (l : List ℕ) (k : ℕ) (t out : List ℕ) where
-  pub call-short : length out < reportLimit → called i n l k t out ≡ unchanged ShortBuffer i t out
+  pub call_short : length out < report_limit → called i n l k t out ≡ unchanged ShortBuffer i t out
   unfolding called
-  call-short a = rw (lt-ltb (length out) reportLimit a)
+  call_short a = rw (lt-ltb (length out) report_limit a)
 
-  module _ (a : reportLimit ≤ length out) where
-    pub call-track : (length t ≡ trackLength → ⊥) → called i n l k t out ≡ unchanged WrongTrack i t out
+  module _ (a : report_limit ≤ length out) where
+    pub call_track : (length t ≡ track_length → ⊥) → called i n l k t out ≡ unchanged WrongTrack i t out
     unfolding called
-    call-track b = rw (le-ltb (length out) reportLimit a, ne_eqb (length t) trackLength b)
+    call_track b = rw (le-ltb (length out) report_limit a, ne_eqb (length t) track_length b)
 
-    module _ (b : length t ≡ trackLength) where
-      pub call-image : length i < n → called i n l k t out ≡ unchanged WrongCounts i t out
+    module _ (b : length t ≡ track_length) where
+      pub call_image : length i < n → called i n l k t out ≡ unchanged WrongCounts i t out
       unfolding called
-      call-image c = rw (le-ltb (length out) reportLimit a, eq-eqb (length t) trackLength b, lt-ltb (length i) n c)
+      call_image c = rw (le-ltb (length out) report_limit a, eq-eqb (length t) track_length b, lt-ltb (length i) n c)
 
-      pub call-list : n ≤ length i → length l < k → called i n l k t out ≡ unchanged WrongCounts i t out
+      pub call_list : n ≤ length i → length l < k → called i n l k t out ≡ unchanged WrongCounts i t out
       unfolding called
-      call-list c d = rw (le-ltb (length out) reportLimit a, eq-eqb (length t) trackLength b, le-ltb (length i) n c, lt-ltb (length l) k d)
+      call_list c d = rw (le-ltb (length out) report_limit a, eq-eqb (length t) track_length b, le-ltb (length i) n c, lt-ltb (length l) k d)
 
-      pub call-report : n ≤ length i → k ≤ length l → called i n l k t out ≡ reported (reportOf (take (memoryLength n) i) t (take k l)) (memoryLength n) i out
+      pub call_report : n ≤ length i → k ≤ length l → called i n l k t out ≡ reported (report_of (take (memory_length n) i) t (take k l)) (memory_length n) i out
       unfolding called
-      call-report c d = rw (le-ltb (length out) reportLimit a, eq-eqb (length t) trackLength b, le-ltb (length i) n c, le-ltb (length l) k d)
+      call_report c d = rw (le-ltb (length out) report_limit a, eq-eqb (length t) track_length b, le-ltb (length i) n c, le-ltb (length l) k d)
 
-pub gives-unchanged : (y : ReportCall) (x : Told) (i t d : List ℕ) → y ≡ unchanged x i t d → GivesReport y x i t d
-gives-unchanged y x i t d e =
+pub gives_unchanged : (y : ReportCall) (x : Told) (i t d : List ℕ) → y ≡ unchanged x i t d → GivesReport y x i t d
+gives_unchanged y x i t d e =
     record {
       told = sym (ap (λ (z : ReportCall). z.told) e);
       image = sym (ap (λ (z : ReportCall). z.image) e);
@@ -182,8 +182,8 @@ gives-unchanged y x i t d e =
       out = sym (ap (λ (z : ReportCall). z.out) e);
     }
 
-pub gives-report : (y : ReportCall) (r : Left) (size : ℕ) (i d : List ℕ) {p : ℕ} {m t out : List ℕ} → y ≡ reported r size i d → Ran r d 0 p m t out → GivesReport y (Report p) (m ++ drop size i) t out
-gives-report y r size i d {p} {m} {t} {out} e w =
+pub gives_report : (y : ReportCall) (r : Left) (size : ℕ) (i d : List ℕ) {p : ℕ} {m t out : List ℕ} → y ≡ reported r size i d → Ran r d 0 p m t out → GivesReport y (Report p) (m ++ drop size i) t out
+gives_report y r size i d {p} {m} {t} {out} e w =
     let f : p ≡ length r.text = omega (arith, w.place) in
     record {
       told = ap Report f ∙ sym (ap (λ (z : ReportCall). z.told) e);

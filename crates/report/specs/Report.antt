@@ -1,38 +1,38 @@
 -- The whole report: from the bytes of an image and of a list to the bytes of the report.
 use Rattle.std.specs.Prelude.{ℕ, suc, ◌+◌, ◌≡◌, Bool, true, false, cond, List, [], ◌∷◌, ◌++◌, leb, ltb, eqb, length, take, drop}
-use Rattle.model.specs.Numbers.{Result, refused, refusalNumber, shown}
+use Rattle.model.specs.Numbers.{Result, refused, refusal_number, shown}
 use Rattle.model.specs.declared.Operation.{Operation}
 use Rattle.model.specs.declared.Answer.{Answer}
 use Rattle.model.specs.declared.Answer.TheVariants.{Done, Faulted, Refused}
 use Rattle.model.specs.declared.Check.{Check}
 use Rattle.model.specs.declared.Check.TheVariants.{Pass, Refuse}
-use Rattle.model.specs.step.Checks.{startChecks, firstFailing}
+use Rattle.model.specs.step.Checks.{start_checks, first_failing}
 use Rattle.model.specs.step.Machine.{After, started}
 use Rattle.model.specs.reference.Rules.{rooted}
-use Rattle.model.specs.reference.Runs.{last, checkerRun}
+use Rattle.model.specs.reference.Runs.{last, checker_run}
 use Rattle.model.specs.declared.Setting.{Setting}
 use Rattle.model.specs.Invisible.{checker}
 use Rattle.text.specs.Put.{over}
 use Rattle.names.specs.Names.{name}
-use Rattle.listing.specs.Whole.{listNumber, Ending, finished, stopped, Reading, readList}
-use Rattle.report_line.specs.Text.{header, noName, startName, reportLine}
+use Rattle.listing.specs.Whole.{list_number, Ending, finished, stopped, Reading, read_list}
+use Rattle.report_line.specs.Text.{header, no_name, start_name, report_line}
 use Rattle.report.specs.declared.Told.{Told}
 use Rattle.report.specs.declared.Told.TheVariants.{Report, ShortBuffer, WrongTrack, WrongCounts}
 
 -- the program's settings: the longest image, 8 contexts and so 9 rows of 1,024 words, root 0
-abbrev pub imageLimit : ℕ
-imageLimit = 32768
+abbrev pub image_limit : ℕ
+image_limit = 32768
 
-abbrev pub trackLength : ℕ
-trackLength = 9216
+abbrev pub track_length : ℕ
+track_length = 9216
 
 abbrev pub setting : Setting
 setting = rooted 0
 
 -- the memory that an image file of n bytes gives: one that is too long counts as length 0, and so does a missing one, of which 0 bytes
 -- are read
-abbrev pub memoryLength : ℕ → ℕ
-memoryLength n = cond (leb n imageLimit) n 0
+abbrev pub memory_length : ℕ → ℕ
+memory_length n = cond (leb n image_limit) n 0
 
 -- whether a check lets a start pass
 abbrev pub passes : Check → Bool
@@ -40,8 +40,8 @@ passes Pass = true
 passes (Refuse r) = false
 
 -- whether the list is looked at: only after a start, from an image file of n bytes, that is accepted
-unfoldable pub looksAtList : ℕ → Bool
-looksAtList n = passes (firstFailing (startChecks (memoryLength n) trackLength setting))
+unfoldable pub looks_at_list : ℕ → Bool
+looks_at_list n = passes (first_failing (start_checks (memory_length n) track_length setting))
 
 -- a line of the report: the number of the list's line, its operation, and the result
 pub record AnswerLine : Type 0 where
@@ -50,19 +50,19 @@ pub record AnswerLine : Type 0 where
   pub result : Result
 
 -- the lines of the report, from line n on: each operation with the answer of its step
-unfoldable pub answerLines : ℕ → List Operation → List After → List AnswerLine
-answerLines n [] xs = []
-answerLines n (o ∷ os) [] = []
-answerLines n (o ∷ os) (x ∷ xs) = record { line = n; operation = o; result = shown x.answer } ∷ answerLines (suc n) os xs
+unfoldable pub answer_lines : ℕ → List Operation → List After → List AnswerLine
+answer_lines n [] xs = []
+answer_lines n (o ∷ os) [] = []
+answer_lines n (o ∷ os) (x ∷ xs) = record { line = n; operation = o; result = shown x.answer } ∷ answer_lines (suc n) os xs
 
-unfoldable pub answerText : List AnswerLine → List ℕ
-answerText [] = []
-answerText (r ∷ rs) = reportLine r.line (name r.operation.kind) r.result ++ answerText rs
+unfoldable pub answer_text : List AnswerLine → List ℕ
+answer_text [] = []
+answer_text (r ∷ rs) = report_line r.line (name r.operation.kind) r.result ++ answer_text rs
 
 -- a list refusal ends the report
-abbrev pub endText : Ending → List ℕ
-endText finished = []
-endText (stopped n x) = reportLine n noName (refused (listNumber x))
+abbrev pub end_text : Ending → List ℕ
+end_text finished = []
+end_text (stopped n x) = report_line n no_name (refused (list_number x))
 
 -- what a run leaves: the report, memory and track
 pub record Left : Type 0 where
@@ -73,32 +73,32 @@ pub record Left : Type 0 where
 -- the operations read carried out one after the other, from x on, the first of them line n
 abbrev pub replayed : ℕ → After → Reading → Left
 replayed n x l =
-    let xs = checkerRun checker x l.operations in
+    let xs = checker_run checker x l.operations in
     record {
-      text = answerText (answerLines n l.operations xs) ++ endText l.ending;
+      text = answer_text (answer_lines n l.operations xs) ++ end_text l.ending;
       memory = (last x xs).memory;
       track = (last x xs).track;
     }
 
 -- a refused start ends the report before the list is looked at
-abbrev pub afterStart : Answer → After → List ℕ → Left
-afterStart (Refused r) x l = record { text = reportLine 0 startName (refused (refusalNumber r)); memory = x.memory; track = x.track }
-afterStart (Done v) x l = replayed 2 x (readList l)
-afterStart (Faulted f) x l = replayed 2 x (readList l)
+abbrev pub after_start : Answer → After → List ℕ → Left
+after_start (Refused r) x l = record { text = report_line 0 start_name (refused (refusal_number r)); memory = x.memory; track = x.track }
+after_start (Done v) x l = replayed 2 x (read_list l)
+after_start (Faulted f) x l = replayed 2 x (read_list l)
 
 -- the report of memory m and list l, with a track t
 unfoldable pub body_of : List ℕ → List ℕ → List ℕ → Left
-body_of m t l = afterStart (started m t setting).answer (started m t setting) l
+body_of m t l = after_start (started m t setting).answer (started m t setting) l
 
 abbrev pub headed : Left → Left
 headed r = record { text = header ++ r.text; memory = r.memory; track = r.track }
 
-unfoldable pub reportOf : List ℕ → List ℕ → List ℕ → Left
-reportOf m t l = headed (body_of m t l)
+unfoldable pub report_of : List ℕ → List ℕ → List ℕ → Left
+report_of m t l = headed (body_of m t l)
 
 -- how long a buffer has to be for every list and every image
-abbrev pub reportLimit : ℕ
-reportLimit = 262272
+abbrev pub report_limit : ℕ
+report_limit = 262272
 
 -- ── What the code gives ──
 
@@ -128,11 +128,11 @@ reported r size i out =
 -- a call with an image buffer of which n bytes were read, a list buffer of which k were, a track, and a buffer for the report
 unfoldable pub called : List ℕ → ℕ → List ℕ → ℕ → List ℕ → List ℕ → ReportCall
 called i n l k t out =
-    cond (ltb (length out) reportLimit) (unchanged ShortBuffer i t out)
-    (cond (eqb (length t) trackLength)
+    cond (ltb (length out) report_limit) (unchanged ShortBuffer i t out)
+    (cond (eqb (length t) track_length)
     (cond (ltb (length i) n) (unchanged WrongCounts i t out)
     (cond (ltb (length l) k) (unchanged WrongCounts i t out)
-    (reported (reportOf (take (memoryLength n) i) t (take k l)) (memoryLength n) i out)))
+    (reported (report_of (take (memory_length n) i) t (take k l)) (memory_length n) i out)))
     (unchanged WrongTrack i t out))
 
 -- what code returns and leaves is what a `ReportCall` says

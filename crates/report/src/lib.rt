@@ -1,11 +1,11 @@
 // The whole report: from the bytes of an image and of a list to the bytes of the report.
 ghost use Rattle.std.specs.Prelude.{◌≡◌, ◌+◌, ◌*◌, ◌≤◌, length};
-ghost use Rattle.model.specs.Limits.{oldWindow};
+ghost use Rattle.model.specs.Limits.{old_window};
 ghost use Rattle.model.specs.declared.Answer.TheVariants.{Done};
 ghost use Rattle.model.specs.step.Machine.{After};
 ghost use Rattle.runs.specs.Noted.{Noted};
-ghost use Rattle.listing.specs.Whole.{readList, readLines};
-ghost use Rattle.report.specs.Report.{memoryLength, looksAtList, replayed, body_of, reportOf, Ran, called, GivesReport};
+ghost use Rattle.listing.specs.Whole.{read_list, read_lines};
+ghost use Rattle.report.specs.Report.{memory_length, looks_at_list, replayed, body_of, report_of, Ran, called, GivesReport};
 
 use listing::{Line, Reason};
 use model::{Answer, Check, Registers, Setting};
@@ -21,9 +21,9 @@ pub enum Told {
 
 // The memory that an image file of n bytes gives.
 fn memory_length(n: usize) -> usize
-    ensures { result ≡ memoryLength n }
+    ensures { result ≡ memory_length n }
 {
-    if n <= 32768 { // imageLimit
+    if n <= 32768 { // image_limit
         return n;
     }
     0
@@ -31,9 +31,9 @@ fn memory_length(n: usize) -> usize
 
 // Whether the list is looked at: a start from an image file of n bytes is accepted.
 pub fn looks_at_list(n: usize) -> bool
-    ensures { result ≡ looksAtList n }
+    ensures { result ≡ looks_at_list n }
 {
-    match checks::check_start(memory_length(n), 9216, Setting { root: 0 }) { // trackLength
+    match checks::check_start(memory_length(n), 9216, Setting { root: 0 }) { // track_length
         Check::Pass => true,
         Check::Refuse(_) => false,
     }
@@ -43,8 +43,8 @@ pub fn looks_at_list(n: usize) -> bool
 fn lines(r: Registers, m: &mut [u8], t: &mut [u32], list: &[u8], out: &mut [u8], at: usize) -> usize
     requires list_len_bound { length list.now ≤ 65536 }
     requires list_in_bounds { at + (4 * length list.now + 64) ≤ length out.old }
-    requires noted { Noted oldWindow (record { memory = m.old; registers = r }) t.old }
-    ensures { Ran (replayed 2 (record { answer = Done 0; registers = r; memory = m.old; track = t.old }) (readLines (length list.now) 2 list.now)) out.old at result m.new t.new out.new }
+    requires noted { Noted old_window (record { memory = m.old; registers = r }) t.old }
+    ensures { Ran (replayed 2 (record { answer = Done 0; registers = r; memory = m.old; track = t.old }) (read_lines (length list.now) 2 list.now)) out.old at result m.new t.new out.new }
 {
     let mut regs = r;
     let mut left = list;
@@ -80,8 +80,8 @@ fn read_list(
     at: usize,
 ) -> usize
     requires at_in_bounds { at + 262208 ≤ length out.old }
-    requires noted { Noted oldWindow (record { memory = m.old; registers = r }) t.old }
-    ensures { Ran (replayed 2 (record { answer = Done 0; registers = r; memory = m.old; track = t.old }) (readList list.now)) out.old at result m.new t.new out.new }
+    requires noted { Noted old_window (record { memory = m.old; registers = r }) t.old }
+    ensures { Ran (replayed 2 (record { answer = Done 0; registers = r; memory = m.old; track = t.old }) (read_list list.now)) out.old at result m.new t.new out.new }
 {
     if listing::too_long(list) {
         return report_line::put_refusal(out, at, 1, listing::list_number(Reason::TooLong));
@@ -110,7 +110,7 @@ fn body(m: &mut [u8], t: &mut [u32], list: &[u8], out: &mut [u8], at: usize) -> 
 // The whole report: its header, then the rest.
 fn whole(m: &mut [u8], t: &mut [u32], list: &[u8], out: &mut [u8]) -> usize
     requires { 262272 ≤ length out.old }
-    ensures { Ran (reportOf m.old t.old list.now) out.old 0 result m.new t.new out.new }
+    ensures { Ran (report_of m.old t.old list.now) out.old 0 result m.new t.new out.new }
 {
     let at = report_line::put_header(out, 0);
     body(m, t, list, out, at)
@@ -128,10 +128,10 @@ pub fn write_report(
 ) -> Told
     ensures { GivesReport (called image.old n list.now k track.old out.old) result image.new track.new out.new }
 {
-    if out.len() < 262272 { // reportLimit
+    if out.len() < 262272 { // report_limit
         return Told::ShortBuffer;
     }
-    if track.len() != 9216 { // trackLength
+    if track.len() != 9216 { // track_length
         return Told::WrongTrack;
     }
     if image.len() < n {

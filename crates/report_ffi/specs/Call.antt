@@ -5,14 +5,14 @@ use Rattle.report.specs.declared.Told.{Told}
 use Rattle.report.specs.declared.Told.TheVariants.{Report, ShortBuffer, WrongTrack, WrongCounts}
 
 -- how long the report is, or why there is none
-abbrev pub toldNumber : Told → ℕ
-toldNumber (Report n) = n
-toldNumber ShortBuffer = 0x300000000
-toldNumber WrongTrack = 0x300000001
-toldNumber WrongCounts = 0x300000002
+abbrev pub told_number : Told → ℕ
+told_number (Report n) = n
+told_number ShortBuffer = 0x300000000
+told_number WrongTrack = 0x300000001
+told_number WrongCounts = 0x300000002
 
 pub record GivesCall (y : ReportCall) (x : ℕ) (i t d : List ℕ) : Type 0 where
-  pub number : x ≡ toldNumber y.told
+  pub number : x ≡ told_number y.told
   pub image : i ≡ y.image
   pub track : t ≡ y.track
   pub out : d ≡ y.out

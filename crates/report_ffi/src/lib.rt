@@ -1,13 +1,13 @@
 // The whole report of an image and a list as a C function.
 ghost use Rattle.std.specs.Prelude.{◌≡◌, ◌+◌, length};
 ghost use Rattle.report.specs.Report.{called};
-ghost use Rattle.report_ffi.specs.Call.{toldNumber, GivesCall};
+ghost use Rattle.report_ffi.specs.Call.{told_number, GivesCall};
 
 use report::Told;
 
 // What a call answers, as a number: how long the report is, or 0x300000000 plus 0, 1 or 2.
 fn told_number(x: Told) -> u64
-    ensures { result ≡ toldNumber x }
+    ensures { result ≡ told_number x }
 {
     match x {
         Told::Report(n) => n as u64,

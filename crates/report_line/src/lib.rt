@@ -1,15 +1,15 @@
 // The lines of a report, put into a lent buffer where there is room for the longest.
 ghost use Rattle.std.specs.Prelude.{◌≡◌, ◌+◌, ◌≤◌, length};
-ghost use Rattle.text.specs.Put.{over, wrote, placeAfter};
+ghost use Rattle.text.specs.Put.{over, wrote, place_after};
 ghost use Rattle.model.specs.Numbers.{refused, shown};
 ghost use Rattle.names.specs.Names.{name as Names·name};
-ghost use Rattle.report_line.specs.Text.{header, noName, startName, word as Text·word, value as Text·value, reportLine, lineRoom};
+ghost use Rattle.report_line.specs.Text.{header, no_name, start_name, word as Text·word, value as Text·value, report_line, line_room};
 
 use model::{Answer, Kind};
 
 // Puts the names of a report.
 pub fn put_header(out: &mut [u8], at: usize) -> usize
-    ensures { (result ≡ placeAfter (length header) out.old at header) × (out.new ≡ wrote (length header) out.old at header) }
+    ensures { (result ≡ place_after (length header) out.old at header) × (out.new ≡ wrote (length header) out.old at header) }
 {
     text::put(out, at, b"line,op,answer,value\n")
 }
@@ -40,7 +40,7 @@ pub fn value(a: Answer) -> u32
 // The line of an operation, where there is room for it.
 fn copy_answer(out: &mut [u8], at: usize, line: u32, k: Kind, a: Answer) -> usize
     requires { at + 34 ≤ length out.old }
-    ensures { (result ≡ at + length (reportLine line (Names·name k) (shown a))) × (out.new ≡ over out.old at (reportLine line (Names·name k) (shown a))) }
+    ensures { (result ≡ at + length (report_line line (Names·name k) (shown a))) × (out.new ≡ over out.old at (report_line line (Names·name k) (shown a))) }
 {
     let p1 = text::put_hex(out, at, line);
     let p2 = text::put(out, p1, b",");
@@ -54,9 +54,9 @@ fn copy_answer(out: &mut [u8], at: usize, line: u32, k: Kind, a: Answer) -> usiz
 
 // Puts the line of an operation.
 pub fn put_answer(out: &mut [u8], at: usize, line: u32, k: Kind, a: Answer) -> usize
-    ensures { (result ≡ placeAfter lineRoom out.old at (reportLine line (Names·name k) (shown a))) × (out.new ≡ wrote lineRoom out.old at (reportLine line (Names·name k) (shown a))) }
+    ensures { (result ≡ place_after line_room out.old at (report_line line (Names·name k) (shown a))) × (out.new ≡ wrote line_room out.old at (report_line line (Names·name k) (shown a))) }
 {
-    if text::has_room(out, at, 34) { // lineRoom
+    if text::has_room(out, at, 34) { // line_room
         return copy_answer(out, at, line, k, a);
     }
     at
@@ -65,7 +65,7 @@ pub fn put_answer(out: &mut [u8], at: usize, line: u32, k: Kind, a: Answer) -> u
 // The line of a list refusal, where there is room for it.
 fn copy_refusal(out: &mut [u8], at: usize, line: u32, n: u32) -> usize
     requires { at + 34 ≤ length out.old }
-    ensures { (result ≡ at + length (reportLine line noName (refused n))) × (out.new ≡ over out.old at (reportLine line noName (refused n))) }
+    ensures { (result ≡ at + length (report_line line no_name (refused n))) × (out.new ≡ over out.old at (report_line line no_name (refused n))) }
 {
     let p1 = text::put_hex(out, at, line);
     let p2 = text::put(out, p1, b",-,refused,");
@@ -75,9 +75,9 @@ fn copy_refusal(out: &mut [u8], at: usize, line: u32, n: u32) -> usize
 
 // Puts the line of a list refusal.
 pub fn put_refusal(out: &mut [u8], at: usize, line: u32, n: u32) -> usize
-    ensures { (result ≡ placeAfter lineRoom out.old at (reportLine line noName (refused n))) × (out.new ≡ wrote lineRoom out.old at (reportLine line noName (refused n))) }
+    ensures { (result ≡ place_after line_room out.old at (report_line line no_name (refused n))) × (out.new ≡ wrote line_room out.old at (report_line line no_name (refused n))) }
 {
-    if text::has_room(out, at, 34) { // lineRoom
+    if text::has_room(out, at, 34) { // line_room
         return copy_refusal(out, at, line, n);
     }
     at
@@ -86,7 +86,7 @@ pub fn put_refusal(out: &mut [u8], at: usize, line: u32, n: u32) -> usize
 // The line of a refused start, where there is room for it.
 fn copy_start(out: &mut [u8], at: usize, n: u32) -> usize
     requires { at + 34 ≤ length out.old }
-    ensures { (result ≡ at + length (reportLine 0 startName (refused n))) × (out.new ≡ over out.old at (reportLine 0 startName (refused n))) }
+    ensures { (result ≡ at + length (report_line 0 start_name (refused n))) × (out.new ≡ over out.old at (report_line 0 start_name (refused n))) }
 {
     let p1 = text::put(out, at, b"0,start,refused,");
     let p2 = text::put_hex(out, p1, n);
@@ -95,9 +95,9 @@ fn copy_start(out: &mut [u8], at: usize, n: u32) -> usize
 
 // Puts the line of a refused start.
 pub fn put_start(out: &mut [u8], at: usize, n: u32) -> usize
-    ensures { (result ≡ placeAfter lineRoom out.old at (reportLine 0 startName (refused n))) × (out.new ≡ wrote lineRoom out.old at (reportLine 0 startName (refused n))) }
+    ensures { (result ≡ place_after line_room out.old at (report_line 0 start_name (refused n))) × (out.new ≡ wrote line_room out.old at (report_line 0 start_name (refused n))) }
 {
-    if text::has_room(out, at, 34) { // lineRoom
+    if text::has_room(out, at, 34) { // line_room
         return copy_start(out, at, n);
     }
     at

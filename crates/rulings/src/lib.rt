@@ -2,9 +2,9 @@
 // `rights` writes.
 ghost use Rattle.std.specs.Prelude.{◌≡◌, true, ◌<◌, length};
 ghost use Rattle.model.specs.Telling.{Tells};
-ghost use Rattle.model.specs.step.Rights.{rulingOf};
-ghost use Rattle.permissions.specs.Sheet.{answer, answerAt};
-ghost use Rattle.permissions.specs.Places.{agree, kindPlace, place_of};
+ghost use Rattle.model.specs.step.Rights.{ruling_of};
+ghost use Rattle.permissions.specs.Sheet.{answer, answer_at};
+ghost use Rattle.permissions.specs.Places.{agree, kind_place, place_of};
 ghost use Rattle.rulings.specs.Ranges.{within, flag, told};
 
 use model::{Purpose, Ruling};
@@ -18,14 +18,14 @@ const PLACES: usize = 384;
 // The answer at a place of a table whose answers are those of the rules.
 fn look_up(table: &[u8; 384], place: usize) -> u8
     requires { (agree 0 table.now ≡ true) × (length table.now ≡ 384) × (place < 384) }
-    ensures { result ≡ answerAt place }
+    ensures { result ≡ answer_at place }
 {
     table[place]
 }
 
 // The answer at a place of the table: 0 allowed, 1 permission fault, 2 domain fault; 3 where the table has no such place.
 pub fn answer_at(place: usize) -> u8
-    ensures { result ≡ answerAt place }
+    ensures { result ≡ answer_at place }
 {
     if place < PLACES {
         return look_up(&TABLE, place);
@@ -55,7 +55,7 @@ fn flag(x: u32) -> u32
 
 // Where a kind of access stands among the kinds, read, write and fetch.
 fn kind_place(x: Purpose) -> u32
-    ensures { result ≡ kindPlace x }
+    ensures { result ≡ kind_place x }
 {
     match x {
         Purpose::ToRead => 0,
@@ -91,7 +91,7 @@ fn ruling_of(number: u8) -> Ruling
 // table answers for all numbers: AP from 8 on permits as little as AP 0, a mode other than 0 is the user's, a field from 4 on is closed as 0
 // is, and XN is set unless it is 0.
 pub fn rule(ap: u32, mode: u32, purpose: Purpose, field: u32, xn: u32) -> Ruling
-    ensures { Tells answer (rulingOf ap mode purpose field xn) result }
+    ensures { Tells answer (ruling_of ap mode purpose field xn) result }
 {
     let ap_in = within(ap, 8);
     let mode_in = flag(mode);

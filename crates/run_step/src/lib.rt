@@ -1,13 +1,13 @@
 // One operation of a run from an accepted start: the answer, registers and memory of a full step, and of the track no more is noted than
 // the operation may have changed. After an accepted start that is the track of a full step.
 ghost use Rattle.std.specs.Prelude.{◌≡◌, cond, eqb};
-ghost use Rattle.model.specs.Limits.{oldWindow};
+ghost use Rattle.model.specs.Limits.{old_window};
 ghost use Rattle.model.specs.declared.Answer.TheVariants.{Done};
-ghost use Rattle.model.specs.step.Memory.{bytes_of, writtenAt};
-ghost use Rattle.model.specs.step.Track.{flushPage, flushPageIn, flushContext};
-ghost use Rattle.model.specs.step.Machine.{Gives, readFrom, writeTo, tables_of};
+ghost use Rattle.model.specs.step.Memory.{bytes_of, written_at};
+ghost use Rattle.model.specs.step.Track.{flush_page, flush_page_in, flush_context};
+ghost use Rattle.model.specs.step.Machine.{Gives, read_from, write_to, tables_of};
 ghost use Rattle.runs.specs.Quiet.{quiet};
-ghost use Rattle.runs.specs.Step.{noPage, everyPage, afterWrite, noteOnePage, noteExtent, notedSoFar, runOperate, runStepped};
+ghost use Rattle.runs.specs.Step.{no_page, every_page, after_write, note_one_page, note_extent, noted_so_far, run_operate, run_stepped};
 
 use access::{access_at, size_of};
 use machine::{carry_out, with_domains, with_mode};
@@ -20,7 +20,7 @@ use transfer::value_of;
 
 // A read or a fetch, by what its access comes to: the track stays as lent.
 fn read_from(x: Access, size: Size, r: Registers, m: &[u8], t: &[u32]) -> Returned
-    ensures { Gives (notedSoFar oldWindow noPage (readFrom x size r m.now t.now) t.now) result m.now t.now }
+    ensures { Gives (noted_so_far old_window no_page (read_from x size r m.now t.now) t.now) result m.now t.now }
 {
     match x {
         Access::Stale => Returned {
@@ -43,7 +43,7 @@ fn read_from(x: Access, size: Size, r: Registers, m: &[u8], t: &[u32]) -> Return
 
 // Stores, and notes every page unless the store is quiet.
 fn store(at: usize, size: Size, v: u32, r: Registers, m: &mut [u8], t: &mut [u32])
-    ensures { (m.new ≡ writtenAt size m.old at v) × (t.new ≡ noteExtent oldWindow (cond (quiet oldWindow m.old (tables_of r) at (bytes_of size)) noPage everyPage) m.new (tables_of r) r.context t.old) }
+    ensures { (m.new ≡ written_at size m.old at v) × (t.new ≡ note_extent old_window (cond (quiet old_window m.old (tables_of r) at (bytes_of size)) no_page every_page) m.new (tables_of r) r.context t.old) }
 {
     if quiet::is_quiet(OLD_WINDOW, m, Tables { root: r.root }, at, size) {
         memory::store(m, at, size, v);
@@ -54,7 +54,7 @@ fn store(at: usize, size: Size, v: u32, r: Registers, m: &mut [u8], t: &mut [u32
 
 // A write, by what its access comes to.
 fn write_to(x: Access, size: Size, v: u32, r: Registers, m: &mut [u8], t: &mut [u32]) -> Returned
-    ensures { Gives (notedSoFar oldWindow (afterWrite oldWindow x size (tables_of r) m.old) (writeTo x size v r m.old t.old) t.old) result m.new t.new }
+    ensures { Gives (noted_so_far old_window (after_write old_window x size (tables_of r) m.old) (write_to x size v r m.old t.old) t.old) result m.new t.new }
 {
     match x {
         Access::Stale => Returned {
@@ -77,7 +77,7 @@ fn write_to(x: Access, size: Size, v: u32, r: Registers, m: &mut [u8], t: &mut [
 
 // Empties the sets of a page in every row, and notes it again.
 fn flush_page(page: usize, r: Registers, m: &[u8], t: &mut [u32])
-    ensures { t.new ≡ noteOnePage oldWindow m.now (tables_of r) r.context page (flushPage oldWindow page t.old) }
+    ensures { t.new ≡ note_one_page old_window m.now (tables_of r) r.context page (flush_page old_window page t.old) }
 {
     track::flush_page(OLD_WINDOW, t, page);
     let tables = Tables { root: r.root };
@@ -86,7 +86,7 @@ fn flush_page(page: usize, r: Registers, m: &[u8], t: &mut [u32])
 
 // Empties the set of a page in a context and its global set, and notes it again.
 fn flush_page_in(named: u32, page: usize, r: Registers, m: &[u8], t: &mut [u32])
-    ensures { t.new ≡ noteOnePage oldWindow m.now (tables_of r) r.context page (flushPageIn oldWindow named page t.old) }
+    ensures { t.new ≡ note_one_page old_window m.now (tables_of r) r.context page (flush_page_in old_window named page t.old) }
 {
     track::flush_page_in(OLD_WINDOW, t, named as usize, page);
     let tables = Tables { root: r.root };
@@ -95,7 +95,7 @@ fn flush_page_in(named: u32, page: usize, r: Registers, m: &[u8], t: &mut [u32])
 
 // Empties the sets of a context, and notes every page again if it is the current one.
 fn flush_context(named: u32, r: Registers, m: &[u8], t: &mut [u32])
-    ensures { t.new ≡ noteExtent oldWindow (cond (eqb named r.context) everyPage noPage) m.now (tables_of r) r.context (flushContext oldWindow named t.old) }
+    ensures { t.new ≡ note_extent old_window (cond (eqb named r.context) every_page no_page) m.now (tables_of r) r.context (flush_context old_window named t.old) }
 {
     track::flush_context(OLD_WINDOW, t, named as usize);
     if named == r.context {
@@ -116,7 +116,7 @@ fn done(r: Registers) -> Returned
 
 // An operation that has passed the checks.
 fn operate(kind: Kind, o: Operation, r: Registers, m: &mut [u8], t: &mut [u32]) -> Returned
-    ensures { Gives (runOperate kind o r m.old t.old) result m.new t.new }
+    ensures { Gives (run_operate kind o r m.old t.old) result m.new t.new }
 {
     match kind {
         Kind::Read => {
@@ -145,7 +145,7 @@ fn operate(kind: Kind, o: Operation, r: Registers, m: &mut [u8], t: &mut [u32]) 
         Kind::Mode => done(with_mode(r, o.a)),
         Kind::All => carry_out(kind, o, r, m, t),
         Kind::Addr => {
-            flush_page(o.a as usize / 4096, r, m, t); // pageSize
+            flush_page(o.a as usize / 4096, r, m, t); // page_size
             done(r)
         }
         Kind::Ctx => {
@@ -153,7 +153,7 @@ fn operate(kind: Kind, o: Operation, r: Registers, m: &mut [u8], t: &mut [u32]) 
             done(r)
         }
         Kind::AddrCtx => {
-            flush_page_in(o.b, o.a as usize / 4096, r, m, t); // pageSize
+            flush_page_in(o.b, o.a as usize / 4096, r, m, t); // page_size
             done(r)
         }
         Kind::Fetch => read_from(
@@ -169,7 +169,7 @@ fn operate(kind: Kind, o: Operation, r: Registers, m: &mut [u8], t: &mut [u32]) 
 
 // One operation in a run: its checks, its effect, and as much noting as it calls for.
 pub fn step(o: Operation, r: Registers, m: &mut [u8], t: &mut [u32]) -> Returned
-    ensures { Gives (runStepped o r m.old t.old) result m.new t.new }
+    ensures { Gives (run_stepped o r m.old t.old) result m.new t.new }
 {
     match checks::check(o, r, m.len(), t.len()) {
         Check::Refuse(n) => Returned {

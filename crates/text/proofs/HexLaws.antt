@@ -15,11 +15,11 @@ use borrow.Author.Tests.{eq-eqb, ne_eqb, eqb-true, eqb-false, lt-ltb, le-ltb, le
 use Rattle.text.specs.declared.Value.{Value}
 use Rattle.text.specs.declared.Value.TheVariants.{Number, Misspelled}
 use Rattle.text.specs.Split.{has}
-use Rattle.text.specs.Hex.{between, digit, digits, glyph, number, lean, spelled, value_of, spell, hexOf}
+use Rattle.text.specs.Hex.{between, digit, digits, glyph, number, lean, spelled, value_of, spell, hex_of}
 
 -- the low end of a range
-pub between-low : (low high x : ℕ) → between low high x ≡ true → low ≤ x
-between-low low high x h = go (leb low x) refl h
+pub between_low : (low high x : ℕ) → between low high x ≡ true → low ≤ x
+between_low low high x h = go (leb low x) refl h
   where
     go : (t : Bool) → leb low x ≡ t → cond t (leb x high) false ≡ true → low ≤ x
     go true e k = leb-true low x e
@@ -31,77 +31,77 @@ module _ (l : List ℕ) (i : ℕ) (h : i < length l) where
   unfolding digits
   digits_more d = rw (add-one, drop-cons l i 0 h, lt-ltb _ _ d)
 
-  pub digits-stop : 15 < digit (get_or l i 0) → digits (drop i l) ≡ false
+  pub digits_stop : 15 < digit (get_or l i 0) → digits (drop i l) ≡ false
   unfolding digits
-  digits-stop d = rw (drop-cons l i 0 h, le-ltb _ _ d)
+  digits_stop d = rw (drop-cons l i 0 h, le-ltb _ _ d)
 
   pub number_more : (v : ℕ) → number v (drop i l) ≡ number (v * 16 + digit (get_or l i 0)) (drop (i + 1) l)
   unfolding number
   number_more v = rw (add-one, drop-cons l i 0 h)
 
-pub digits-end : (l : List ℕ) (i : ℕ) → length l ≤ i → digits (drop i l) ≡ true
+pub digits_end : (l : List ℕ) (i : ℕ) → length l ≤ i → digits (drop i l) ≡ true
 unfolding digits
-digits-end l i h = rw (drop_of_length-le l h)
+digits_end l i h = rw (drop_of_length-le l h)
 
-pub number-end : (v : ℕ) (l : List ℕ) (i : ℕ) → length l ≤ i → number v (drop i l) ≡ v
+pub number_end : (v : ℕ) (l : List ℕ) (i : ℕ) → length l ≤ i → number v (drop i l) ≡ v
 unfolding number
-number-end v l i h = rw (drop_of_length-le l h)
+number_end v l i h = rw (drop_of_length-le l h)
 
 -- the bound on the digits read so far
-pub bound-more : (v d i : ℕ) → v < 16 ^ i → d < 16 → v * 16 + d < 16 ^ (i + 1)
-bound-more v d i h k = rw (add-one, pow-suc) (omega arith)
+pub bound_more : (v d i : ℕ) → v < 16 ^ i → d < 16 → v * 16 + d < 16 ^ (i + 1)
+bound_more v d i h k = rw (add-one, pow-suc) (omega arith)
 
-pub bound-fits : (v i : ℕ) → v < 16 ^ i → i ≤ 8 → v < 2 ^ 32
-bound-fits v i h k = omega (arith, pow-le-pow_right {n = 16} (lit< tt) k)
+pub bound_fits : (v i : ℕ) → v < 16 ^ i → i ≤ 8 → v < 2 ^ 32
+bound_fits v i h k = omega (arith, pow-le-pow_right {n = 16} (lit< tt) k)
 
 -- the cases of a value
-pub value-long : (s : List ℕ) → 8 < length s → Misspelled ≡ value_of s
+pub value_long : (s : List ℕ) → 8 < length s → Misspelled ≡ value_of s
 unfolding value_of spelled
-value-long s h = rw (lt-leb _ _ h)
+value_long s h = rw (lt-leb _ _ h)
 
-pub value-lean : (s : List ℕ) → lean s ≡ false → Misspelled ≡ value_of s
+pub value_lean : (s : List ℕ) → lean s ≡ false → Misspelled ≡ value_of s
 unfolding value_of spelled
-value-lean s h = rw h (go (leb (length s) 8))
+value_lean s h = rw h (go (leb (length s) 8))
   where
     go : (t : Bool) → Misspelled ≡ cond (cond t false false) (Number (number 0 s)) Misspelled
     go true = refl
     go false = refl
 
-pub value-digits : (s : List ℕ) → digits s ≡ false → Misspelled ≡ value_of s
+pub value_digits : (s : List ℕ) → digits s ≡ false → Misspelled ≡ value_of s
 unfolding value_of spelled
-value-digits s h = rw h (go (leb (length s) 8) (lean s))
+value_digits s h = rw h (go (leb (length s) 8) (lean s))
   where
     go : (t u : Bool) → Misspelled ≡ cond (cond t (cond u false false) false) (Number (number 0 s)) Misspelled
     go true true = refl
     go true false = refl
     go false u = refl
 
-pub value-good : (s : List ℕ) → length s ≤ 8 → lean s ≡ true → digits s ≡ true → Number (number 0 s) ≡ value_of s
+pub value_good : (s : List ℕ) → length s ≤ 8 → lean s ≡ true → digits s ≡ true → Number (number 0 s) ≡ value_of s
 unfolding value_of spelled
-value-good s h k d = rw (le-leb _ _ h, k, d)
+value_good s h k d = rw (le-leb _ _ h, k, d)
 
-pub lean-empty : (s : List ℕ) → length s ≡ 0 → lean s ≡ false
+pub lean_empty : (s : List ℕ) → length s ≡ 0 → lean s ≡ false
 unfolding lean
-lean-empty [] h = refl
-lean-empty (x ∷ xs) h = absurd (omega arith)
+lean_empty [] h = refl
+lean_empty (x ∷ xs) h = absurd (omega arith)
 
-pub lean-one : (s : List ℕ) → length s ≡ 1 → lean s ≡ true
+pub lean_one : (s : List ℕ) → length s ≡ 1 → lean s ≡ true
 unfolding lean
-lean-one [] h = absurd (omega arith)
-lean-one (x ∷ []) h = refl
-lean-one (x ∷ y ∷ ys) h = absurd (omega arith)
+lean_one [] h = absurd (omega arith)
+lean_one (x ∷ []) h = refl
+lean_one (x ∷ y ∷ ys) h = absurd (omega arith)
 
-pub lean-zero : (s : List ℕ) → 1 < length s → get_or s 0 0 ≡ 48 → lean s ≡ false
+pub lean_zero : (s : List ℕ) → 1 < length s → get_or s 0 0 ≡ 48 → lean s ≡ false
 unfolding lean
-lean-zero [] h e = absurd (omega arith)
-lean-zero (x ∷ []) h e = absurd (omega arith)
-lean-zero (x ∷ y ∷ ys) h e = rw (eq-eqb _ _ e)
+lean_zero [] h e = absurd (omega arith)
+lean_zero (x ∷ []) h e = absurd (omega arith)
+lean_zero (x ∷ y ∷ ys) h e = rw (eq-eqb _ _ e)
 
-pub lean-other : (s : List ℕ) → 1 < length s → (get_or s 0 0 ≡ 48 → ⊥) → lean s ≡ true
+pub lean_other : (s : List ℕ) → 1 < length s → (get_or s 0 0 ≡ 48 → ⊥) → lean s ≡ true
 unfolding lean
-lean-other [] h e = absurd (omega arith)
-lean-other (x ∷ []) h e = absurd (omega arith)
-lean-other (x ∷ y ∷ ys) h e = rw (ne_eqb _ _ e)
+lean_other [] h e = absurd (omega arith)
+lean_other (x ∷ []) h e = absurd (omega arith)
+lean_other (x ∷ y ∷ ys) h e = rw (ne_eqb _ _ e)
 
 -- a test and what it says
 below : (a b : ℕ) → (a < b) ⊎ (b ≤ a)
@@ -116,9 +116,9 @@ digit_glyph d h =
     (λ p. simp (le-ltb d 10 p, le-leb 48 (87 + d) (omega arith), lt-leb (87 + d) 57 (omega arith), le-leb 97 (87 + d) (omega arith), le-leb (87 + d) 102 (omega arith)) (omega arith))
     (below d 10)
 
-pub glyph-digit : (x : ℕ) → digit x < 16 → glyph (digit x) ≡ x
+pub glyph_digit : (x : ℕ) → digit x < 16 → glyph (digit x) ≡ x
 unfolding digit glyph
-glyph-digit x h = go (below x 48) (below x 58) (below x 97) (below x 103)
+glyph_digit x h = go (below x 48) (below x 58) (below x 97) (below x 103)
   where
     go : (x < 48) ⊎ (48 ≤ x) → (x < 58) ⊎ (58 ≤ x) → (x < 97) ⊎ (97 ≤ x) → (x < 103) ⊎ (103 ≤ x) → glyph (digit x) ≡ x
     go (inl a) q r t = absurd (omega (arith, simp (lt-leb 48 x a, lt-leb 97 x (omega arith)) at h))
@@ -128,56 +128,56 @@ glyph-digit x h = go (below x 48) (below x 58) (below x 97) (below x 103)
     go (inr a) (inr b) (inr c) (inr d) = absurd (omega (arith, simp (le-leb 48 x a, lt-leb x 57 (omega arith), le-leb 97 x c, lt-leb x 102 (omega arith)) at h))
 
 -- the first of several digits that pass is one, and the rest pass
-pub digits-head : (x : ℕ) (xs : List ℕ) → digits (x ∷ xs) ≡ true → (digit x < 16) × (digits xs ≡ true)
+pub digits_head : (x : ℕ) (xs : List ℕ) → digits (x ∷ xs) ≡ true → (digit x < 16) × (digits xs ≡ true)
 unfolding digits
-digits-head x xs h = go (ltb (digit x) 16) refl h
+digits_head x xs h = go (ltb (digit x) 16) refl h
   where
     go : (t : Bool) → ltb (digit x) 16 ≡ t → cond t (digits xs) false ≡ true → (digit x < 16) × (digits xs ≡ true)
     go true e k = (ltb-true _ _ e, k)
     go false e k = absurd (true≢false (sym k))
 
 -- to spell a number that was read gives back its digits, after the first
-spell-number : (k v : ℕ) (xs acc : List ℕ) → 0 < v → digits xs ≡ true → spell (length xs + k) (number v xs) acc ≡ spell k v (xs ++ acc)
+spell_number : (k v : ℕ) (xs acc : List ℕ) → 0 < v → digits xs ≡ true → spell (length xs + k) (number v xs) acc ≡ spell k v (xs ++ acc)
 unfolding number spell
-spell-number k v [] acc p h = rw zero-add
-spell-number k v (x ∷ xs) acc p h =
-    let d = digits-head x xs h in
+spell_number k v [] acc p h = rw zero-add
+spell_number k v (x ∷ xs) acc p h =
+    let d = digits_head x xs h in
     let w = v * 16 + digit x in
     let q : w / 16 ≡ v = omega arith in
     let r : w % 16 ≡ digit x = omega arith in
     ap (λ (n : ℕ). spell n (number w xs) acc) (suc-add (length xs) k ∙ sym (add-suc (length xs) k))
-    ∙ spell-number (suc k) w xs acc (omega arith) d.1
-    ∙ simp (le-ltb w 16 (omega arith), q, r, glyph-digit x d.0)
+    ∙ spell_number (suc k) w xs acc (omega arith) d.1
+    ∙ simp (le-ltb w 16 (omega arith), q, r, glyph_digit x d.0)
 
-digit-zero : (x : ℕ) → digit x ≡ 0 → x ≡ 48
+digit_zero : (x : ℕ) → digit x ≡ 0 → x ≡ 48
 unfolding glyph
-digit-zero x e = sym (glyph-digit x (omega arith)) ∙ ap glyph e
+digit_zero x e = sym (glyph_digit x (omega arith)) ∙ ap glyph e
 
-lean-two : (x y : ℕ) (ys : List ℕ) → lean (x ∷ y ∷ ys) ≡ true → 0 < digit x
+lean_two : (x y : ℕ) (ys : List ℕ) → lean (x ∷ y ∷ ys) ≡ true → 0 < digit x
 unfolding lean
-lean-two x y ys h = ⊎_elim (λ p. absurd (eqb-false x 48 (not-true _ h) (digit-zero x (omega arith)))) (λ p. p) (below (digit x) 1)
+lean_two x y ys h = ⊎_elim (λ p. absurd (eqb-false x 48 (not-true _ h) (digit_zero x (omega arith)))) (λ p. p) (below (digit x) 1)
 
 -- a text that reads as a number is that number's
-spell-text : (s : List ℕ) → length s ≤ 8 → lean s ≡ true → digits s ≡ true → hexOf (number 0 s) ≡ s
-unfolding hexOf lean number spell
-spell-text [] h k d = absurd (true≢false (sym k))
-spell-text (x ∷ []) h k d =
-    let q = digits-head x [] d in
+spell_text : (s : List ℕ) → length s ≤ 8 → lean s ≡ true → digits s ≡ true → hex_of (number 0 s) ≡ s
+unfolding hex_of lean number spell
+spell_text [] h k d = absurd (true≢false (sym k))
+spell_text (x ∷ []) h k d =
+    let q = digits_head x [] d in
     let e : 0 * 16 + digit x ≡ digit x = omega arith in
-    simp (e, lt-ltb (digit x) 16 q.0, glyph-digit x q.0)
-spell-text (x ∷ y ∷ ys) h k d =
-    let q = digits-head x (y ∷ ys) d in
+    simp (e, lt-ltb (digit x) 16 q.0, glyph_digit x q.0)
+spell_text (x ∷ y ∷ ys) h k d =
+    let q = digits_head x (y ∷ ys) d in
     let e : 0 * 16 + digit x ≡ digit x = omega arith in
     let f : 8 ≡ length (y ∷ ys) + suc (7 - length (y ∷ ys)) = omega arith in
     ap (λ (v : ℕ). spell 8 (number v (y ∷ ys)) []) e
     ∙ ap (λ (n : ℕ). spell n (number (digit x) (y ∷ ys)) []) f
-    ∙ spell-number (suc (7 - length (y ∷ ys))) (digit x) (y ∷ ys) [] (lean-two x y ys k) q.1
-    ∙ simp (lt-ltb (digit x) 16 q.0, glyph-digit x q.0, append-nil)
+    ∙ spell_number (suc (7 - length (y ∷ ys))) (digit x) (y ∷ ys) [] (lean_two x y ys k) q.1
+    ∙ simp (lt-ltb (digit x) 16 q.0, glyph_digit x q.0, append-nil)
 
 -- what `spelled` tests
-pub spelled-parts : (s : List ℕ) → spelled s ≡ true → (length s ≤ 8) × (lean s ≡ true) × (digits s ≡ true)
+pub spelled_parts : (s : List ℕ) → spelled s ≡ true → (length s ≤ 8) × (lean s ≡ true) × (digits s ≡ true)
 unfolding spelled
-spelled-parts s h = go (leb (length s) 8) refl (lean s) refl h
+spelled_parts s h = go (leb (length s) 8) refl (lean s) refl h
   where
     go : (t : Bool) → leb (length s) 8 ≡ t → (u : Bool) → lean s ≡ u → cond t (cond u (digits s) false) false ≡ true → (length s ≤ 8) × (lean s ≡ true) × (digits s ≡ true)
     go true e true f k = (leb-true _ _ e, f, k)
@@ -185,15 +185,15 @@ spelled-parts s h = go (leb (length s) 8) refl (lean s) refl h
     go false e u f k = absurd (true≢false (sym k))
 
 -- a value that is read is spelled as the printer spells it
-pub value-text : (s : List ℕ) (n : ℕ) → value_of s ≡ Number n → s ≡ hexOf n
+pub value_text : (s : List ℕ) (n : ℕ) → value_of s ≡ Number n → s ≡ hex_of n
 unfolding value_of
-value-text s n h = go (spelled s) refl h
+value_text s n h = go (spelled s) refl h
   where
-    go : (t : Bool) → spelled s ≡ t → cond t (Number (number 0 s)) Misspelled ≡ Number n → s ≡ hexOf n
+    go : (t : Bool) → spelled s ≡ t → cond t (Number (number 0 s)) Misspelled ≡ Number n → s ≡ hex_of n
     go true e k =
-        let p = spelled-parts s e in
+        let p = spelled_parts s e in
         let q : number 0 s ≡ n = cc in
-        sym (spell-text s p.0 p.1 p.2) ∙ ap hexOf q
+        sym (spell_text s p.0 p.1 p.2) ∙ ap hex_of q
     go false e k = let z : ◌≡◌ {A = ℕ} 0 1 = cc in absurd (omega arith)
 
 -- a value has 32 bits
@@ -201,27 +201,27 @@ number_bound : (v k : ℕ) (s : List ℕ) → v < 16 ^ k → digits s ≡ true �
 unfolding number
 number_bound v k [] h d = subst (λ (n : ℕ). v < 16 ^ n) (let e : k ≡ k + 0 = omega arith in e) h
 number_bound v k (x ∷ xs) h d =
-    let q = digits-head x xs d in
+    let q = digits_head x xs d in
     let e : k + 1 + length xs ≡ k + suc (length xs) = omega arith in
-    subst (λ (n : ℕ). number (v * 16 + digit x) xs < 16 ^ n) e (number_bound (v * 16 + digit x) (k + 1) xs (bound-more v (digit x) k h q.0) q.1)
+    subst (λ (n : ℕ). number (v * 16 + digit x) xs < 16 ^ n) e (number_bound (v * 16 + digit x) (k + 1) xs (bound_more v (digit x) k h q.0) q.1)
 
-pub value-bound : (s : List ℕ) (n : ℕ) → value_of s ≡ Number n → n < 2 ^ 32
+pub value_bound : (s : List ℕ) (n : ℕ) → value_of s ≡ Number n → n < 2 ^ 32
 unfolding value_of
-value-bound s n h = go (spelled s) refl h
+value_bound s n h = go (spelled s) refl h
   where
     go : (t : Bool) → spelled s ≡ t → cond t (Number (number 0 s)) Misspelled ≡ Number n → n < 2 ^ 32
     go true e k =
-        let p = spelled-parts s e in
+        let p = spelled_parts s e in
         let q : number 0 s ≡ n = cc in
         let b : number 0 s < 16 ^ (0 + length s) = number_bound 0 0 s (omega arith) p.2 in
-        subst (λ (m : ℕ). m < 2 ^ 32) q (bound-fits (number 0 s) (0 + length s) b (omega (arith, p.0)))
+        subst (λ (m : ℕ). m < 2 ^ 32) q (bound_fits (number 0 s) (0 + length s) b (omega (arith, p.0)))
     go false e k = let z : ◌≡◌ {A = ℕ} 0 1 = cc in absurd (omega arith)
 
 -- and the other way: what the printer spells is read as the number
-number-spell : (k n : ℕ) (acc : List ℕ) → n < 16 ^ k → number 0 (spell k n acc) ≡ number n acc
+number_spell : (k n : ℕ) (acc : List ℕ) → n < 16 ^ k → number 0 (spell k n acc) ≡ number n acc
 unfolding number spell
-number-spell zero n acc h = ap (λ (v : ℕ). number v acc) (omega arith)
-number-spell (suc k) n acc h = go (number-spell k (n / 16) (glyph (n % 16) ∷ acc)) (below n 16)
+number_spell zero n acc h = ap (λ (v : ℕ). number v acc) (omega arith)
+number_spell (suc k) n acc h = go (number_spell k (n / 16) (glyph (n % 16) ∷ acc)) (below n 16)
   where
     go : (n / 16 < 16 ^ k → number 0 (spell k (n / 16) (glyph (n % 16) ∷ acc)) ≡ number (n / 16) (glyph (n % 16) ∷ acc)) → (n < 16) ⊎ (16 ≤ n) → number 0 (spell (suc k) n acc) ≡ number n acc
     go ih (inl p) = simp (lt-ltb n 16 p) (ap (λ (v : ℕ). number v acc) (omega (arith, digit_glyph n p)))
@@ -231,10 +231,10 @@ number-spell (suc k) n acc h = go (number-spell k (n / 16) (glyph (n % 16) ∷ a
         simp (le-ltb n 16 p)
         (ih (omega arith) ∙ ap (λ (v : ℕ). number v acc) (omega (arith, digit_glyph (n % 16) m)))
 
-digits-spell : (k n : ℕ) (acc : List ℕ) → digits acc ≡ true → digits (spell k n acc) ≡ true
+digits_spell : (k n : ℕ) (acc : List ℕ) → digits acc ≡ true → digits (spell k n acc) ≡ true
 unfolding digits spell
-digits-spell zero n acc h = h
-digits-spell (suc k) n acc h = go (digits-spell k (n / 16) (glyph (n % 16) ∷ acc)) (below n 16)
+digits_spell zero n acc h = h
+digits_spell (suc k) n acc h = go (digits_spell k (n / 16) (glyph (n % 16) ∷ acc)) (below n 16)
   where
     one : (d : ℕ) → d < 16 → digits (glyph d ∷ acc) ≡ true
     one d q = rw (digit_glyph d q, lt-ltb d 16 q) h
@@ -243,82 +243,82 @@ digits-spell (suc k) n acc h = go (digits-spell k (n / 16) (glyph (n % 16) ∷ a
     go ih (inl p) = rw (lt-ltb n 16 p) (one n p)
     go ih (inr p) = rw (le-ltb n 16 p) (ih (one (n % 16) (omega arith)))
 
-pub length-spell : (k n : ℕ) (acc : List ℕ) → length (spell k n acc) ≤ k + length acc
+pub length_spell : (k n : ℕ) (acc : List ℕ) → length (spell k n acc) ≤ k + length acc
 unfolding spell
-length-spell zero n acc = omega arith
-length-spell (suc k) n acc = go (length-spell k (n / 16) (glyph (n % 16) ∷ acc)) (ltb n 16)
+length_spell zero n acc = omega arith
+length_spell (suc k) n acc = go (length_spell k (n / 16) (glyph (n % 16) ∷ acc)) (ltb n 16)
   where
     go : length (spell k (n / 16) (glyph (n % 16) ∷ acc)) ≤ k + suc (length acc) → (t : Bool) → length (cond t (glyph n ∷ acc) (spell k (n / 16) (glyph (n % 16) ∷ acc))) ≤ suc k + length acc
     go ih true = omega arith
     go ih false = omega arith
 
-lean-head : (x : ℕ) (xs : List ℕ) → (x ≡ 48 → ⊥) → lean (x ∷ xs) ≡ true
+lean_head : (x : ℕ) (xs : List ℕ) → (x ≡ 48 → ⊥) → lean (x ∷ xs) ≡ true
 unfolding lean
-lean-head x [] h = refl
-lean-head x (y ∷ ys) h = rw (ne_eqb x 48 h)
+lean_head x [] h = refl
+lean_head x (y ∷ ys) h = rw (ne_eqb x 48 h)
 
-glyph-more : (d : ℕ) → 0 < d → glyph d ≡ 48 → ⊥
+glyph_more : (d : ℕ) → 0 < d → glyph d ≡ 48 → ⊥
 unfolding glyph
-glyph-more d h e = ⊎_elim (λ p. omega (arith, simp (lt-ltb d 10 p) at e)) (λ p. omega (arith, simp (le-ltb d 10 p) at e)) (below d 10)
+glyph_more d h e = ⊎_elim (λ p. omega (arith, simp (lt-ltb d 10 p) at e)) (λ p. omega (arith, simp (le-ltb d 10 p) at e)) (below d 10)
 
-lean-spell : (k n : ℕ) (acc : List ℕ) → 0 < n → n < 16 ^ k → lean (spell k n acc) ≡ true
+lean_spell : (k n : ℕ) (acc : List ℕ) → 0 < n → n < 16 ^ k → lean (spell k n acc) ≡ true
 unfolding spell
-lean-spell zero n acc p h = absurd (omega arith)
-lean-spell (suc k) n acc p h = go (lean-spell k (n / 16) (glyph (n % 16) ∷ acc)) (below n 16)
+lean_spell zero n acc p h = absurd (omega arith)
+lean_spell (suc k) n acc p h = go (lean_spell k (n / 16) (glyph (n % 16) ∷ acc)) (below n 16)
   where
     go : (0 < n / 16 → n / 16 < 16 ^ k → lean (spell k (n / 16) (glyph (n % 16) ∷ acc)) ≡ true) → (n < 16) ⊎ (16 ≤ n) → lean (spell (suc k) n acc) ≡ true
-    go ih (inl q) = rw (lt-ltb n 16 q) (lean-head (glyph n) acc (glyph-more n p))
+    go ih (inl q) = rw (lt-ltb n 16 q) (lean_head (glyph n) acc (glyph_more n p))
     go ih (inr q) =
         let w : n < 16 ^ k * 16 = rw pow-suc at h in
         rw (le-ltb n 16 q) (ih (omega arith) (omega arith))
 
-pub hex-spelled : (n : ℕ) → n < 2 ^ 32 → (length (hexOf n) ≤ 8) × (lean (hexOf n) ≡ true) × (digits (hexOf n) ≡ true)
-unfolding hexOf
-hex-spelled n h = (omega (arith, length-spell 8 n []), ⊎_elim (λ p. zero-lean n (omega arith)) (λ p. lean-spell 8 n [] p h) (below n 1), digits-spell 8 n [] digits-nil)
+pub hex_spelled : (n : ℕ) → n < 2 ^ 32 → (length (hex_of n) ≤ 8) × (lean (hex_of n) ≡ true) × (digits (hex_of n) ≡ true)
+unfolding hex_of
+hex_spelled n h = (omega (arith, length_spell 8 n []), ⊎_elim (λ p. zero_lean n (omega arith)) (λ p. lean_spell 8 n [] p h) (below n 1), digits_spell 8 n [] digits_nil)
   where
-    zero-lean : (m : ℕ) → m ≡ 0 → lean (spell 8 m []) ≡ true
-    zero-lean m e = rw e (unfold lean spell in refl)
+    zero_lean : (m : ℕ) → m ≡ 0 → lean (spell 8 m []) ≡ true
+    zero_lean m e = rw e (unfold lean spell in refl)
 
-    digits-nil : digits [] ≡ true
-    digits-nil = unfold digits in refl
+    digits_nil : digits [] ≡ true
+    digits_nil = unfold digits in refl
 
-pub text-value : (n : ℕ) → n < 2 ^ 32 → value_of (hexOf n) ≡ Number n
-unfolding hexOf
-text-value n h =
-    let p = hex-spelled n h in
-    sym (value-good (hexOf n) p.0 p.1 p.2) ∙ ap Number (number-spell 8 n [] h ∙ unfold number in refl)
+pub text_value : (n : ℕ) → n < 2 ^ 32 → value_of (hex_of n) ≡ Number n
+unfolding hex_of
+text_value n h =
+    let p = hex_spelled n h in
+    sym (value_good (hex_of n) p.0 p.1 p.2) ∙ ap Number (number_spell 8 n [] h ∙ unfold number in refl)
 
 -- a text of digits holds no byte that is no digit
-pub digits-lack : (b : ℕ) (s : List ℕ) → digit b ≡ 16 → digits s ≡ true → has b s ≡ false
+pub digits_lack : (b : ℕ) (s : List ℕ) → digit b ≡ 16 → digits s ≡ true → has b s ≡ false
 unfolding has
-digits-lack b [] e h = refl
-digits-lack b (x ∷ xs) e h =
-    let q = digits-head x xs h in
+digits_lack b [] e h = refl
+digits_lack b (x ∷ xs) e h =
+    let q = digits_head x xs h in
     let n : x ≡ b → ⊥ = λ p. omega (arith, q.0, ap digit p) in
-    rw (ne_eqb x b n) (digits-lack b xs e q.1)
+    rw (ne_eqb x b n) (digits_lack b xs e q.1)
 
 -- a number holds no byte that is no digit
-pub hex-lacks : (b n : ℕ) → digit b ≡ 16 → n < 2 ^ 32 → has b (hexOf n) ≡ false
-hex-lacks b n e h = digits-lack b (hexOf n) e (hex-spelled n h).2
+pub hex_lacks : (b n : ℕ) → digit b ≡ 16 → n < 2 ^ 32 → has b (hex_of n) ≡ false
+hex_lacks b n e h = digits_lack b (hex_of n) e (hex_spelled n h).2
 
 -- a number has a digit
-spell-some : (k n : ℕ) (acc : List ℕ) → 1 ≤ length (spell (suc k) n acc)
+spell_some : (k n : ℕ) (acc : List ℕ) → 1 ≤ length (spell (suc k) n acc)
 unfolding spell
-spell-some zero n acc = go (ltb n 16)
+spell_some zero n acc = go (ltb n 16)
   where
     go : (t : Bool) → 1 ≤ length (cond t (glyph n ∷ acc) (glyph (n % 16) ∷ acc))
     go true = omega arith
     go false = omega arith
-spell-some (suc k) n acc = go (spell-some k (n / 16) (glyph (n % 16) ∷ acc)) (ltb n 16)
+spell_some (suc k) n acc = go (spell_some k (n / 16) (glyph (n % 16) ∷ acc)) (ltb n 16)
   where
     go : 1 ≤ length (spell (suc k) (n / 16) (glyph (n % 16) ∷ acc)) → (t : Bool) → 1 ≤ length (cond t (glyph n ∷ acc) (spell (suc k) (n / 16) (glyph (n % 16) ∷ acc)))
     go ih true = omega arith
     go ih false = ih
 
-pub hex-some : (n : ℕ) → 1 ≤ length (hexOf n)
-unfolding hexOf
-hex-some n = spell-some 7 n []
+pub hex_some : (n : ℕ) → 1 ≤ length (hex_of n)
+unfolding hex_of
+hex_some n = spell_some 7 n []
 
-pub hex-length : (n : ℕ) → length (hexOf n) ≤ 8
-unfolding hexOf
-hex-length n = omega (arith, length-spell 8 n [])
+pub hex_length : (n : ℕ) → length (hex_of n) ≤ 8
+unfolding hex_of
+hex_length n = omega (arith, length_spell 8 n [])

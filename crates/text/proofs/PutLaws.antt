@@ -8,12 +8,12 @@ use lib.Dec.{leb}
 use lib.ListN.{length, take, drop, length-append, length-drop}
 use lib.Seq.{paste, paste-zero, take-length, take_at, drop-append-add, drop-drop, length-take-le}
 use borrow.Author.Tests.{le-leb, lt-leb, leb-true, leb-false}
-use Rattle.text.specs.Put.{over, hasRoom, wrote, placeAfter}
+use Rattle.text.specs.Put.{over, has_room, wrote, place_after}
 
 -- a whole copy is what `over` says
-pub over-paste : (d : List ℕ) (at : ℕ) (s : List ℕ) → paste d at s (length s) ≡ over d at s
+pub over_paste : (d : List ℕ) (at : ℕ) (s : List ℕ) → paste d at s (length s) ≡ over d at s
 unfolding over
-over-paste d at s = rw take-length
+over_paste d at s = rw take-length
 
 module _ (d : List ℕ) (at : ℕ) (s : List ℕ) (room : at + length s ≤ length d) where
   front : length (take at d ++ s) ≡ at + length s
@@ -24,9 +24,9 @@ module _ (d : List ℕ) (at : ℕ) (s : List ℕ) (room : at + length s ≤ leng
   length_over = omega (arith, front, length-append (take at d ++ s) (drop (at + length s) d), length-drop (at + length s) d)
 
   -- two texts, one behind the other, are one
-  pub over-over : (t : List ℕ) → over (over d at s) (at + length s) t ≡ over d at (s ++ t)
+  pub over_over : (t : List ℕ) → over (over d at s) (at + length s) t ≡ over d at (s ++ t)
   unfolding over
-  over-over t =
+  over_over t =
       let p = take at d ++ s in
       let x = drop (at + length s) d in
       let e : take (at + length s) (p ++ x) ≡ p = take_at p x (at + length s) front in
@@ -36,9 +36,9 @@ module _ (d : List ℕ) (at : ℕ) (s : List ℕ) (room : at + length s ≤ leng
       ap₂ (λ (u w : List ℕ). (u ++ t) ++ w) e f ∙ ap₂ (λ (u : List ℕ) (k : ℕ). u ++ drop k d) (append_assoc (take at d) s t) g
 
 -- what was written stands there
-pub take-over : (d : List ℕ) (s : List ℕ) → length s ≤ length d → take (length s) (over d 0 s) ≡ s
+pub take_over : (d : List ℕ) (s : List ℕ) → length s ≤ length d → take (length s) (over d 0 s) ≡ s
 unfolding over
-take-over d s room = take_at s (drop (0 + length s) d) (length s) refl
+take_over d s room = take_at s (drop (0 + length s) d) (length s) refl
 
 -- out is d with s written at a place, p is the place after it, and s has at most m bytes, for which there is room
 pub record Written (d : List ℕ) (at : ℕ) (s out : List ℕ) (p m : ℕ) : Type 0 where
@@ -48,13 +48,13 @@ pub record Written (d : List ℕ) (at : ℕ) (s out : List ℕ) (p m : ℕ) : Ty
   pub room : at + m ≤ length d
   pub long : length out ≡ length d
 
-pub written-first : {d out : List ℕ} {at p : ℕ} (t : List ℕ) (m : ℕ) → length t ≤ m → at + m ≤ length d → (p ≡ at + length t) × (out ≡ over d at t) → Written d at t out p m
-written-first {d = d} {at = at} t m h r e = record { bytes = e.1; place = e.0; most = h; room = r; long = ap length e.1 ∙ length_over d at t (omega arith) }
+pub written_first : {d out : List ℕ} {at p : ℕ} (t : List ℕ) (m : ℕ) → length t ≤ m → at + m ≤ length d → (p ≡ at + length t) × (out ≡ over d at t) → Written d at t out p m
+written_first {d = d} {at = at} t m h r e = record { bytes = e.1; place = e.0; most = h; room = r; long = ap length e.1 ∙ length_over d at t (omega arith) }
 
-pub written-more : {d s out out' : List ℕ} {at p p' m : ℕ} (t : List ℕ) (k : ℕ) → Written d at s out p m → length t ≤ k → at + (m + k) ≤ length d → (p' ≡ p + length t) × (out' ≡ over out p t) → Written d at (s ++ t) out' p' (m + k)
-written-more {d = d} {s = s} {out = out} {out' = out'} {at = at} {p = p} {p' = p'} {m = m} t k w h r e =
+pub written_more : {d s out out' : List ℕ} {at p p' m : ℕ} (t : List ℕ) (k : ℕ) → Written d at s out p m → length t ≤ k → at + (m + k) ≤ length d → (p' ≡ p + length t) × (out' ≡ over out p t) → Written d at (s ++ t) out' p' (m + k)
+written_more {d = d} {s = s} {out = out} {out' = out'} {at = at} {p = p} {p' = p'} {m = m} t k w h r e =
     let b : out' ≡ over d at (s ++ t) =
-    e.1 ∙ ap₂ (λ (x : List ℕ) (y : ℕ). over x y t) w.bytes w.place ∙ over-over d at s (omega arith) t in
+    e.1 ∙ ap₂ (λ (x : List ℕ) (y : ℕ). over x y t) w.bytes w.place ∙ over_over d at s (omega arith) t in
     let l : length (s ++ t) ≡ length s + length t = length-append s t in
     record {
       bytes = b;
@@ -66,21 +66,21 @@ written-more {d = d} {s = s} {out = out} {out' = out'} {at = at} {p = p} {p' = p
 
 -- where there is room, and where there is none
 module _ (room : ℕ) (d : List ℕ) (at : ℕ) (s : List ℕ) where
-  pub wrote-fits : (p : ℕ) (out : List ℕ) → at + room ≤ length d → (p ≡ placeAfter room d at s) × (out ≡ wrote room d at s) → (p ≡ at + length s) × (out ≡ over d at s)
-  unfolding placeAfter wrote hasRoom
-  wrote-fits p out h e = rw (le-leb (at + room) (length d) h) at e
+  pub wrote_fits : (p : ℕ) (out : List ℕ) → at + room ≤ length d → (p ≡ place_after room d at s) × (out ≡ wrote room d at s) → (p ≡ at + length s) × (out ≡ over d at s)
+  unfolding place_after wrote has_room
+  wrote_fits p out h e = rw (le-leb (at + room) (length d) h) at e
 
-  pub room-left : hasRoom room d at ≡ true → at + room ≤ length d
-  unfolding hasRoom
-  room-left h = leb-true (at + room) (length d) h
+  pub room_left : has_room room d at ≡ true → at + room ≤ length d
+  unfolding has_room
+  room_left h = leb-true (at + room) (length d) h
 
-  pub wrote-yes : (p : ℕ) (out : List ℕ) → hasRoom room d at ≡ true → (p ≡ at + length s) × (out ≡ over d at s) → (p ≡ placeAfter room d at s) × (out ≡ wrote room d at s)
-  unfolding placeAfter wrote
-  wrote-yes p out h e = rw h e
+  pub wrote_yes : (p : ℕ) (out : List ℕ) → has_room room d at ≡ true → (p ≡ at + length s) × (out ≡ over d at s) → (p ≡ place_after room d at s) × (out ≡ wrote room d at s)
+  unfolding place_after wrote
+  wrote_yes p out h e = rw h e
 
-  pub wrote-no : hasRoom room d at ≡ false → (at ≡ placeAfter room d at s) × (d ≡ wrote room d at s)
-  unfolding placeAfter wrote
-  wrote-no h = rw h (refl, refl)
+  pub wrote_no : has_room room d at ≡ false → (at ≡ place_after room d at s) × (d ≡ wrote room d at s)
+  unfolding place_after wrote
+  wrote_no h = rw h (refl, refl)
 
 -- nothing put changes nothing
 pub over_none : (d : List ℕ) (at : ℕ) → at ≤ length d → over d at [] ≡ d
@@ -89,17 +89,17 @@ over_none d at h = sym (paste-zero d at [])
 
 -- the same of a text that was put where there was room for k bytes
 pub put_first : {d out : List ℕ} {at p : ℕ} (k : ℕ) (t : List ℕ) (m : ℕ) → k ≤ m → length t ≤ m → at + m ≤ length d →
-    (p ≡ placeAfter k d at t) × (out ≡ wrote k d at t) → Written d at t out p m
-put_first {d = d} {out = out} {at = at} {p = p} k t m a h r e = written-first t m h r (wrote-fits k d at t p out (omega arith) e)
+    (p ≡ place_after k d at t) × (out ≡ wrote k d at t) → Written d at t out p m
+put_first {d = d} {out = out} {at = at} {p = p} k t m a h r e = written_first t m h r (wrote_fits k d at t p out (omega arith) e)
 
-pub put-more : {d s out out' : List ℕ} {at p p' m : ℕ} (k : ℕ) (t : List ℕ) (n : ℕ) → Written d at s out p m → k ≤ n → length t ≤ n → at + (m + n) ≤ length d →
-    (p' ≡ placeAfter k out p t) × (out' ≡ wrote k out p t) → Written d at (s ++ t) out' p' (m + n)
-put-more {out = out} {out' = out'} {p = p} {p' = p'} k t n w a h r e =
-    written-more t n w h r (wrote-fits k out p t p' out' (omega (arith, w.place, w.most, w.long)) e)
+pub put_more : {d s out out' : List ℕ} {at p p' m : ℕ} (k : ℕ) (t : List ℕ) (n : ℕ) → Written d at s out p m → k ≤ n → length t ≤ n → at + (m + n) ≤ length d →
+    (p' ≡ place_after k out p t) × (out' ≡ wrote k out p t) → Written d at (s ++ t) out' p' (m + n)
+put_more {out = out} {out' = out'} {p = p} {p' = p'} k t n w a h r e =
+    written_more t n w h r (wrote_fits k out p t p' out' (omega (arith, w.place, w.most, w.long)) e)
 
 -- the test of the room left, as the code makes it
-pub room-test : (at room n : ℕ) → at ≤ n → leb room (n - at) ≡ leb (at + room) n
-room-test at room n h = go (leb room (n - at)) refl
+pub room_test : (at room n : ℕ) → at ≤ n → leb room (n - at) ≡ leb (at + room) n
+room_test at room n h = go (leb room (n - at)) refl
   where
     go : (t : Bool) → leb room (n - at) ≡ t → t ≡ leb (at + room) n
     go true e = sym (le-leb (at + room) n (omega (arith, leb-true room (n - at) e)))

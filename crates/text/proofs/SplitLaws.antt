@@ -14,75 +14,75 @@ use Rattle.text.specs.Split.{has, until, past, same}
 
 -- one turn of the search
 module _ (b : ℕ) (l : List ℕ) (i : ℕ) (h : i < length l) where
-  pub until-miss : (get_or l i 0 ≡ b → ⊥) → length (until b (drop i l)) ≡ 1 + length (until b (drop (i + 1) l))
+  pub until_miss : (get_or l i 0 ≡ b → ⊥) → length (until b (drop i l)) ≡ 1 + length (until b (drop (i + 1) l))
   unfolding until
-  until-miss ne = rw (add-one, drop-cons l i 0 h, ne_eqb _ _ ne, one-add)
+  until_miss ne = rw (add-one, drop-cons l i 0 h, ne_eqb _ _ ne, one-add)
 
-  pub until-hit : get_or l i 0 ≡ b → length (until b (drop i l)) ≡ 0
+  pub until_hit : get_or l i 0 ≡ b → length (until b (drop i l)) ≡ 0
   unfolding until
-  until-hit e = rw (drop-cons l i 0 h, eq-eqb _ _ e)
+  until_hit e = rw (drop-cons l i 0 h, eq-eqb _ _ e)
 
 pub until_end : (b : ℕ) (l : List ℕ) (i : ℕ) → length l ≤ i → length (until b (drop i l)) ≡ 0
 unfolding until
 until_end b l i h = rw (drop_of_length-le l h)
 
 -- the place that a search finds, and the three parts there
-pub has-place : (b : ℕ) (l : List ℕ) → ltb (length (until b l)) (length l) ≡ has b l
+pub has_place : (b : ℕ) (l : List ℕ) → ltb (length (until b l)) (length l) ≡ has b l
 unfolding has until
-has-place b [] = refl
-has-place b (x ∷ xs) = go (has-place b xs) (eqb x b)
+has_place b [] = refl
+has_place b (x ∷ xs) = go (has_place b xs) (eqb x b)
   where
     go : ltb (length (until b xs)) (length xs) ≡ has b xs → (t : Bool) → ltb (length (cond t [] (x ∷ until b xs))) (suc (length xs)) ≡ cond t true (has b xs)
     go ih true = lt-ltb 0 (suc (length xs)) (omega arith)
     go ih false = leb-suc-suc (suc (length (until b xs))) (length xs) ∙ ih
 
-pub until-take : (b : ℕ) (l : List ℕ) → take (length (until b l)) l ≡ until b l
+pub until_take : (b : ℕ) (l : List ℕ) → take (length (until b l)) l ≡ until b l
 unfolding until
-until-take b [] = refl
-until-take b (x ∷ xs) = go (until-take b xs) (eqb x b)
+until_take b [] = refl
+until_take b (x ∷ xs) = go (until_take b xs) (eqb x b)
   where
     go : take (length (until b xs)) xs ≡ until b xs → (t : Bool) → take (length (cond t [] (x ∷ until b xs))) (x ∷ xs) ≡ cond t [] (x ∷ until b xs)
     go ih true = refl
     go ih false = ap (λ (r : List ℕ). x ∷ r) ih
 
-pub past-drop : (b : ℕ) (l : List ℕ) → drop (suc (length (until b l))) l ≡ past b l
+pub past_drop : (b : ℕ) (l : List ℕ) → drop (suc (length (until b l))) l ≡ past b l
 unfolding until past
-past-drop b [] = refl
-past-drop b (x ∷ xs) = go (past-drop b xs) (eqb x b)
+past_drop b [] = refl
+past_drop b (x ∷ xs) = go (past_drop b xs) (eqb x b)
   where
     go : drop (suc (length (until b xs))) xs ≡ past b xs → (t : Bool) → drop (length (cond t [] (x ∷ until b xs))) xs ≡ cond t xs (past b xs)
     go ih true = refl
     go ih false = ih
 
-pub until-length : (b : ℕ) (l : List ℕ) → length (until b l) ≤ length l
+pub until_length : (b : ℕ) (l : List ℕ) → length (until b l) ≤ length l
 unfolding until
-until-length b [] = omega arith
-until-length b (x ∷ xs) = go (until-length b xs) (eqb x b)
+until_length b [] = omega arith
+until_length b (x ∷ xs) = go (until_length b xs) (eqb x b)
   where
     go : length (until b xs) ≤ length xs → (t : Bool) → length (cond t [] (x ∷ until b xs)) ≤ suc (length xs)
     go ih true = omega arith
     go ih false = omega arith
 
 -- the part behind the place, as a slice is cut there
-pub past-part : (b : ℕ) (l : List ℕ) (n : ℕ) → n ≡ length (until b l) → take (length l - (n + 1)) (drop (n + 1) l) ≡ past b l
-past-part b l n e = take_all (length l - (n + 1)) (drop (n + 1) l) (rw length-drop (omega arith)) ∙ rw (add-one, e) (past-drop b l)
+pub past_part : (b : ℕ) (l : List ℕ) (n : ℕ) → n ≡ length (until b l) → take (length l - (n + 1)) (drop (n + 1) l) ≡ past b l
+past_part b l n e = take_all (length l - (n + 1)) (drop (n + 1) l) (rw length-drop (omega arith)) ∙ rw (add-one, e) (past_drop b l)
 
 -- a place that was looked for: b stands there, or nowhere; and what stands before it
-pub found-has : (b : ℕ) (l : List ℕ) (n : ℕ) → n ≡ length (until b l) → n < length l → has b l ≡ true
-found-has b l n e h = sym (has-place b l) ∙ lt-ltb (length (until b l)) (length l) (omega arith)
+pub found_has : (b : ℕ) (l : List ℕ) (n : ℕ) → n ≡ length (until b l) → n < length l → has b l ≡ true
+found_has b l n e h = sym (has_place b l) ∙ lt-ltb (length (until b l)) (length l) (omega arith)
 
 pub found_none : (b : ℕ) (l : List ℕ) (n : ℕ) → n ≡ length (until b l) → length l ≤ n → has b l ≡ false
-found_none b l n e h = sym (has-place b l) ∙ le-ltb (length (until b l)) (length l) (omega arith)
+found_none b l n e h = sym (has_place b l) ∙ le-ltb (length (until b l)) (length l) (omega arith)
 
 pub found_before : (b : ℕ) (l : List ℕ) (n : ℕ) → n ≡ length (until b l) → take n l ≡ until b l
-found_before b l n e = ap (λ i. take i l) e ∙ until-take b l
+found_before b l n e = ap (λ i. take i l) e ∙ until_take b l
 
-pub past-part-end : (b : ℕ) (l : List ℕ) (n : ℕ) → n ≡ length (until b l) → length l ≤ n → take (length l - n) (drop n l) ≡ past b l
-past-part-end b l n e h =
+pub past_part_end : (b : ℕ) (l : List ℕ) (n : ℕ) → n ≡ length (until b l) → length l ≤ n → take (length l - n) (drop n l) ≡ past b l
+past_part_end b l n e h =
     take_all (length l - n) (drop n l) (rw length-drop (omega arith))
     ∙ drop_of_length-le l h
     ∙ sym (drop_of_length-le l {i = suc (length (until b l))} (omega arith))
-    ∙ past-drop b l
+    ∙ past_drop b l
 
 -- one turn of the comparison
 module _ (a b : List ℕ) (i : ℕ) (ha : i < length a) (hb : i < length b) where
@@ -98,12 +98,12 @@ pub same_end : (a b : List ℕ) (i : ℕ) → length a ≤ i → length b ≤ i 
 unfolding same
 same_end a b i ha hb = rw (drop_of_length-le a ha, drop_of_length-le b hb)
 
-pub same-lengths : (a b : List ℕ) → (length a ≡ length b → ⊥) → same a b ≡ false
+pub same_lengths : (a b : List ℕ) → (length a ≡ length b → ⊥) → same a b ≡ false
 unfolding same
-same-lengths [] [] ne = absurd (ne refl)
-same-lengths [] (y ∷ ys) ne = refl
-same-lengths (x ∷ xs) [] ne = refl
-same-lengths (x ∷ xs) (y ∷ ys) ne = go (same-lengths xs ys (λ e. ne (ap suc e))) (eqb x y)
+same_lengths [] [] ne = absurd (ne refl)
+same_lengths [] (y ∷ ys) ne = refl
+same_lengths (x ∷ xs) [] ne = refl
+same_lengths (x ∷ xs) (y ∷ ys) ne = go (same_lengths xs ys (λ e. ne (ap suc e))) (eqb x y)
   where
     go : same xs ys ≡ false → (t : Bool) → cond t (same xs ys) false ≡ false
     go ih true = ih
@@ -120,30 +120,30 @@ join b (x ∷ xs) h = go (join b xs) (eqb x b) refl h
     go ih false e k = ap (λ (r : List ℕ). x ∷ r) (ih k)
 
 -- and where the front has no b, the parts of the two joined are the two
-pub join-parts : (b : ℕ) (xs ys : List ℕ) → has b xs ≡ false → (has b (xs ++ (b ∷ ys)) ≡ true) × (until b (xs ++ (b ∷ ys)) ≡ xs) × (past b (xs ++ (b ∷ ys)) ≡ ys)
+pub join_parts : (b : ℕ) (xs ys : List ℕ) → has b xs ≡ false → (has b (xs ++ (b ∷ ys)) ≡ true) × (until b (xs ++ (b ∷ ys)) ≡ xs) × (past b (xs ++ (b ∷ ys)) ≡ ys)
 unfolding has until past
-join-parts b [] ys h = (rw (eq-eqb b b refl), rw (eq-eqb b b refl), rw (eq-eqb b b refl))
-join-parts b (x ∷ xs) ys h = go (join-parts b xs ys) (eqb x b) h
+join_parts b [] ys h = (rw (eq-eqb b b refl), rw (eq-eqb b b refl), rw (eq-eqb b b refl))
+join_parts b (x ∷ xs) ys h = go (join_parts b xs ys) (eqb x b) h
   where
     go : (has b xs ≡ false → (has b (xs ++ (b ∷ ys)) ≡ true) × (until b (xs ++ (b ∷ ys)) ≡ xs) × (past b (xs ++ (b ∷ ys)) ≡ ys)) → (t : Bool) → cond t true (has b xs) ≡ false → (cond t true (has b (xs ++ (b ∷ ys))) ≡ true) × (cond t [] (x ∷ until b (xs ++ (b ∷ ys))) ≡ x ∷ xs) × (cond t (xs ++ (b ∷ ys)) (past b (xs ++ (b ∷ ys))) ≡ ys)
     go ih true k = absurd (true≢false k)
     go ih false k = let p = ih k in (p.0, ap (λ (r : List ℕ). x ∷ r) p.1, p.2)
 
-pub has-append : (b : ℕ) (xs ys : List ℕ) → has b xs ≡ false → has b ys ≡ false → has b (xs ++ ys) ≡ false
+pub has_append : (b : ℕ) (xs ys : List ℕ) → has b xs ≡ false → has b ys ≡ false → has b (xs ++ ys) ≡ false
 unfolding has
-has-append b [] ys h k = k
-has-append b (x ∷ xs) ys h k = go (λ (e : has b xs ≡ false). has-append b xs ys e k) (eqb x b) h
+has_append b [] ys h k = k
+has_append b (x ∷ xs) ys h k = go (λ (e : has b xs ≡ false). has_append b xs ys e k) (eqb x b) h
   where
     go : (has b xs ≡ false → has b (xs ++ ys) ≡ false) → (t : Bool) → cond t true (has b xs) ≡ false → cond t true (has b (xs ++ ys)) ≡ false
     go ih true e = e
     go ih false e = ih e
 
-pub same-equal : (a b : List ℕ) → same a b ≡ true → a ≡ b
+pub same_equal : (a b : List ℕ) → same a b ≡ true → a ≡ b
 unfolding same
-same-equal [] [] h = refl
-same-equal [] (y ∷ ys) h = absurd (true≢false (sym h))
-same-equal (x ∷ xs) [] h = absurd (true≢false (sym h))
-same-equal (x ∷ xs) (y ∷ ys) h = go (same-equal xs ys) (eqb x y) refl h
+same_equal [] [] h = refl
+same_equal [] (y ∷ ys) h = absurd (true≢false (sym h))
+same_equal (x ∷ xs) [] h = absurd (true≢false (sym h))
+same_equal (x ∷ xs) (y ∷ ys) h = go (same_equal xs ys) (eqb x y) refl h
   where
     go : (same xs ys ≡ true → xs ≡ ys) → (t : Bool) → eqb x y ≡ t → cond t (same xs ys) false ≡ true → x ∷ xs ≡ y ∷ ys
     go ih true e k = ap₂ (λ (z : ℕ) (r : List ℕ). z ∷ r) (eqb-true x y e) (ih k)
@@ -154,28 +154,28 @@ unfolding same
 same_refl [] = refl
 same_refl (x ∷ xs) = rw (eq-eqb x x refl) (same_refl xs)
 
-pub past-length : (b : ℕ) (l : List ℕ) → length (past b l) ≤ length l
+pub past_length : (b : ℕ) (l : List ℕ) → length (past b l) ≤ length l
 unfolding past
-past-length b [] = omega arith
-past-length b (x ∷ xs) = go (past-length b xs) (eqb x b)
+past_length b [] = omega arith
+past_length b (x ∷ xs) = go (past_length b xs) (eqb x b)
   where
     go : length (past b xs) ≤ length xs → (t : Bool) → length (cond t xs (past b xs)) ≤ suc (length xs)
     go ih true = omega arith
     go ih false = omega arith
 
 -- what stands after the first b is shorter than a list that is not empty, and nothing where there is no b
-pub past-shorter : (b x : ℕ) (xs : List ℕ) → length (past b (x ∷ xs)) ≤ length xs
+pub past_shorter : (b x : ℕ) (xs : List ℕ) → length (past b (x ∷ xs)) ≤ length xs
 unfolding past
-past-shorter b x xs = go (eqb x b)
+past_shorter b x xs = go (eqb x b)
   where
     go : (t : Bool) → length (cond t xs (past b xs)) ≤ length xs
     go true = omega arith
-    go false = past-length b xs
+    go false = past_length b xs
 
-pub past-none : (b : ℕ) (l : List ℕ) → has b l ≡ false → past b l ≡ []
+pub past_none : (b : ℕ) (l : List ℕ) → has b l ≡ false → past b l ≡ []
 unfolding has past
-past-none b [] h = refl
-past-none b (x ∷ xs) h = go (past-none b xs) (eqb x b) h
+past_none b [] h = refl
+past_none b (x ∷ xs) h = go (past_none b xs) (eqb x b) h
   where
     go : (has b xs ≡ false → past b xs ≡ []) → (t : Bool) → cond t true (has b xs) ≡ false → cond t xs (past b xs) ≡ []
     go ih true e = absurd (true≢false e)

@@ -43,5 +43,5 @@ spell zero n acc = acc
 spell (suc k) n acc = cond (ltb n 16) (glyph n ∷ acc) (spell k (n / 16) (glyph (n % 16) ∷ acc))
 
 -- a number of 32 bits as text
-unfoldable pub hexOf : ℕ → List ℕ
-hexOf n = spell 8 n []
+unfoldable pub hex_of : ℕ → List ℕ
+hex_of n = spell 8 n []

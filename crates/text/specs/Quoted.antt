@@ -4,9 +4,9 @@ use Prim.Native.Char.{code}
 use Prim.Native.String.{String, len, char_at}
 
 -- the next n characters from place `at` on
-unfoldable pub quotedFrom : ℕ → ℕ → String → List ℕ
-quotedFrom zero at s = []
-quotedFrom (suc n) at s = code (char_at s at) ∷ quotedFrom n (suc at) s
+unfoldable pub quoted_from : ℕ → ℕ → String → List ℕ
+quoted_from zero at s = []
+quoted_from (suc n) at s = code (char_at s at) ∷ quoted_from n (suc at) s
 
 unfoldable pub quoted : String → List ℕ
-quoted s = quotedFrom (len s) 0 s
+quoted s = quoted_from (len s) 0 s

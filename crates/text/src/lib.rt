@@ -2,8 +2,8 @@
 // is total: what does not parse, and what does not fit, is an answer.
 ghost use Rattle.std.specs.Prelude.{◌≡◌, ◌+◌, ◌<◌, ◌≤◌, length};
 ghost use Rattle.text.specs.Split.{has as Split·has, until as Split·until, past as Split·past, same as Split·same};
-ghost use Rattle.text.specs.Hex.{value_of, between as Hex·between, digit as Hex·digit, glyph as Hex·glyph, hexOf};
-ghost use Rattle.text.specs.Put.{over, hasRoom, wrote, placeAfter};
+ghost use Rattle.text.specs.Hex.{value_of, between as Hex·between, digit as Hex·digit, glyph as Hex·glyph, hex_of};
+ghost use Rattle.text.specs.Put.{over, has_room, wrote, place_after};
 
 // What a value of a list is: a number, or misspelled.
 #[derive(Drop)]
@@ -119,7 +119,7 @@ pub fn read_value(s: &[u8]) -> Value
 
 // Whether `room` bytes are left in a buffer from place `at` on.
 pub fn has_room(out: &[u8], at: usize, room: usize) -> bool
-    ensures { result ≡ hasRoom room out.now at }
+    ensures { result ≡ has_room room out.now at }
 {
     if out.len() < at {
         return false;
@@ -142,7 +142,7 @@ fn copy(out: &mut [u8], at: usize, text: &[u8]) -> usize
 
 // Puts text into out at place `at`, and returns the place after it. Where it does not fit, nothing is written and the place stays.
 pub fn put(out: &mut [u8], at: usize, text: &[u8]) -> usize
-    ensures { (result ≡ placeAfter (length text.now) out.old at text.now) × (out.new ≡ wrote (length text.now) out.old at text.now) }
+    ensures { (result ≡ place_after (length text.now) out.old at text.now) × (out.new ≡ wrote (length text.now) out.old at text.now) }
 {
     if has_room(out, at, text.len()) {
         return copy(out, at, text);
@@ -161,7 +161,7 @@ fn glyph(d: u32) -> u8
 // Copies n in hexadecimal.
 fn copy_hex(out: &mut [u8], at: usize, n: u32) -> usize
     requires { at + 8 ≤ length out.old }
-    ensures { (result ≡ at + length (hexOf n)) × (out.new ≡ over out.old at (hexOf n)) }
+    ensures { (result ≡ at + length (hex_of n)) × (out.new ≡ over out.old at (hex_of n)) }
 {
     let mut buf = [0u8; 8];
     let mut i: usize = 8;
@@ -178,7 +178,7 @@ fn copy_hex(out: &mut [u8], at: usize, n: u32) -> usize
 
 // Puts n in hexadecimal, where 8 bytes are left for it.
 pub fn put_hex(out: &mut [u8], at: usize, n: u32) -> usize
-    ensures { (result ≡ placeAfter 8 out.old at (hexOf n)) × (out.new ≡ wrote 8 out.old at (hexOf n)) }
+    ensures { (result ≡ place_after 8 out.old at (hex_of n)) × (out.new ≡ wrote 8 out.old at (hex_of n)) }
 {
     if has_room(out, at, 8) {
         return copy_hex(out, at, n);

@@ -23,7 +23,7 @@ pub record Machine : Type 1 where
   -- the present outcome of a page in the current context
   pub walk : State → Page → Walk Entry Fault
   -- whether this is a page that can be loaded
-  pub inWindow : State → Page → Bool
+  pub in_window : State → Page → Bool
   -- what the entry of a page is held under, if it is loaded now
   pub tag : State → Page → Entry → Tag
   -- whether an entry held under this tag serves the page now

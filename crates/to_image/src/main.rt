@@ -20,7 +20,7 @@ struct Reading {
 }
 
 // The buffers come from functions that ensure their lengths: a proof never computes with their elements. The image's length is the limit
-// (imageLimit), the only one that `finish_file` takes, and the line's is that of the longest line (lineMost).
+// (image_limit), the only one that `finish_file` takes, and the line's is that of the longest line (line_most).
 fn image_buffer() -> [u8; 32768]
     ensures { 32768 ≡ length result }
 {

@@ -6,7 +6,7 @@ use libc::STDOUT_FILENO;
 use line_writer::Told;
 
 // The buffers come from functions that ensure their lengths: a proof never computes with their elements. The image's is one byte longer than the
-// limit (imageLimit), so that 'too long' is seen; the other has room for the lines of every image (fileRoom).
+// limit (image_limit), so that 'too long' is seen; the other has room for the lines of every image (file_room).
 fn image_buffer() -> [u8; 32769]
     ensures { 32769 ≡ length result }
 {

@@ -10,8 +10,8 @@ use borrow.Author.Tests.{le-leb, lt-leb}
 use borrow.Rule.Slice.PartMut.{put_mid}
 use mathlib.Core.Bool.{Bool, true, false, cond}
 use lib.Dec.{leb}
-use Rattle.model.specs.step.Rows.{mapFirst, mapWords, rowStart, inPart, in_row, eachRow}
-use Rattle.limits.proofs.Sizes.{row-past, start-place}
+use Rattle.model.specs.step.Rows.{map_first, map_words, row_start, in_part, in_row, each_row}
+use Rattle.limits.proofs.Sizes.{row_past, start_place}
 
 -- a word stored where it stands
 set_own : (l : List ℕ) (n : ℕ) → set l n (get_or l n 0) ≡ l
@@ -20,70 +20,70 @@ set_own (w ∷ ws) zero = refl
 set_own (w ∷ ws) (suc n) = ap (λ (l : List ℕ). w ∷ l) (set_own ws n)
 
 module _ (f : ℕ → ℕ → ℕ) where
-  pub length-mapFirst : (i n : ℕ) (l : List ℕ) → length (mapFirst f i n l) ≡ length l
-  length-mapFirst i zero l = refl
-  length-mapFirst i (suc n) [] = refl
-  length-mapFirst i (suc n) (w ∷ ws) = ap suc (length-mapFirst (suc i) n ws)
+  pub length_map_first : (i n : ℕ) (l : List ℕ) → length (map_first f i n l) ≡ length l
+  length_map_first i zero l = refl
+  length_map_first i (suc n) [] = refl
+  length_map_first i (suc n) (w ∷ ws) = ap suc (length_map_first (suc i) n ws)
 
   -- the word after the first n is as it was
-  pub next-mapFirst : (i n : ℕ) (l : List ℕ) → get_or (mapFirst f i n l) n 0 ≡ get_or l n 0
-  next-mapFirst i zero l = refl
-  next-mapFirst i (suc n) [] = refl
-  next-mapFirst i (suc n) (w ∷ ws) = next-mapFirst (suc i) n ws
+  pub next_map_first : (i n : ℕ) (l : List ℕ) → get_or (map_first f i n l) n 0 ≡ get_or l n 0
+  next_map_first i zero l = refl
+  next_map_first i (suc n) [] = refl
+  next_map_first i (suc n) (w ∷ ws) = next_map_first (suc i) n ws
 
-  step : (i n j : ℕ) (l : List ℕ) → j ≡ i + n → n < length l → set (mapFirst f i n l) n (f j (get_or l n 0)) ≡ mapFirst f i (suc n) l
+  step : (i n j : ℕ) (l : List ℕ) → j ≡ i + n → n < length l → set (map_first f i n l) n (f j (get_or l n 0)) ≡ map_first f i (suc n) l
   step i zero j [] e h = absurd (not-suc-le-zero h)
   step i zero j (w ∷ ws) e h = ap (λ (k : ℕ). f k w ∷ ws) (e ∙ add-zero i)
   step i (suc n) j [] e h = absurd (not-suc-le-zero h)
   step i (suc n) j (w ∷ ws) e h = ap (λ (l : List ℕ). f i w ∷ l) (step (suc i) n j ws (e ∙ add-suc i n ∙ sym (suc-add i n)) (le_of_suc-le-suc h))
 
   -- a turn of a loop that changes one word after the other
-  pub turn : (old row : List ℕ) (n r : ℕ) → row ≡ mapFirst f 0 n old → n < length old → r ≡ f n (get_or row n 0) → set row n r ≡ mapFirst f 0 (n + 1) old
+  pub turn : (old row : List ℕ) (n r : ℕ) → row ≡ map_first f 0 n old → n < length old → r ≡ f n (get_or row n 0) → set row n r ≡ map_first f 0 (n + 1) old
   turn old row n r e h q =
-      let r-is : r ≡ f n (get_or old n 0) = q ∙ ap (f n) (ap (λ (l : List ℕ). get_or l n 0) e ∙ next-mapFirst 0 n old) in
+      let r-is : r ≡ f n (get_or old n 0) = q ∙ ap (f n) (ap (λ (l : List ℕ). get_or l n 0) e ∙ next_map_first 0 n old) in
       rw (add-one, e, r-is) (step 0 n n old (sym (zero-add n)) h)
 
   -- a turn of a loop that finds the next word as f leaves it
-  pub still-turn : (l : List ℕ) (n : ℕ) → l ≡ mapFirst f 0 n l → n < length l → f n (get_or l n 0) ≡ get_or l n 0 → l ≡ mapFirst f 0 (n + 1) l
-  still-turn l n e h q = sym (set_own l n) ∙ turn l l n (get_or l n 0) e h (sym q)
+  pub still_turn : (l : List ℕ) (n : ℕ) → l ≡ map_first f 0 n l → n < length l → f n (get_or l n 0) ≡ get_or l n 0 → l ≡ map_first f 0 (n + 1) l
+  still_turn l n e h q = sym (set_own l n) ∙ turn l l n (get_or l n 0) e h (sym q)
 
-  whole_part : (i k : ℕ) (l : List ℕ) → mapFirst f i k l ≡ mapFirst f i (length (take k l)) (take k l) ++ drop k l
+  whole_part : (i k : ℕ) (l : List ℕ) → map_first f i k l ≡ map_first f i (length (take k l)) (take k l) ++ drop k l
   whole_part i zero l = refl
   whole_part i (suc k) [] = refl
   whole_part i (suc k) (w ∷ ws) = ap (λ (l : List ℕ). f i w ∷ l) (whole_part (suc i) k ws)
 
-  next-part : (i p k : ℕ) (l : List ℕ) → p ≤ length l → mapFirst f i (p + k) l ≡ put_mid p k (mapFirst f i p l) (mapFirst f (i + p) (length (take k (drop p (mapFirst f i p l)))) (take k (drop p (mapFirst f i p l))))
-  next-part i zero k l h = rw (zero-add, add-zero) (whole_part i k l)
-  next-part i (suc p) k [] h = absurd (not-suc-le-zero h)
-  next-part i (suc p) k (w ∷ ws) h =
-      rw (suc-add p k, add-suc i p ∙ sym (suc-add i p)) (ap (λ (l : List ℕ). f i w ∷ l) (next-part (suc i) p k ws (le_of_suc-le-suc h)))
+  next_part : (i p k : ℕ) (l : List ℕ) → p ≤ length l → map_first f i (p + k) l ≡ put_mid p k (map_first f i p l) (map_first f (i + p) (length (take k (drop p (map_first f i p l)))) (take k (drop p (map_first f i p l))))
+  next_part i zero k l h = rw (zero-add, add-zero) (whole_part i k l)
+  next_part i (suc p) k [] h = absurd (not-suc-le-zero h)
+  next_part i (suc p) k (w ∷ ws) h =
+      rw (suc-add p k, add-suc i p ∙ sym (suc-add i p)) (ap (λ (l : List ℕ). f i w ∷ l) (next_part (suc i) p k ws (le_of_suc-le-suc h)))
 
   -- a turn of a loop that changes one part after the other
-  pub part-turn : (old row ys : List ℕ) (p k : ℕ) → row ≡ mapFirst f 0 p old → p ≤ length old → ys ≡ mapFirst f p (length (take k (drop p row))) (take k (drop p row)) → put_mid p k row ys ≡ mapFirst f 0 (p + k) old
-  part-turn old row ys p k e h q = sym (next-part 0 p k old h ∙ rw (zero-add p, ← e, ← q))
+  pub part_turn : (old row ys : List ℕ) (p k : ℕ) → row ≡ map_first f 0 p old → p ≤ length old → ys ≡ map_first f p (length (take k (drop p row))) (take k (drop p row)) → put_mid p k row ys ≡ map_first f 0 (p + k) old
+  part_turn old row ys p k e h q = sym (next_part 0 p k old h ∙ rw (zero-add p, ← e, ← q))
 
   -- after the last turn
-  pub all-turns : (old row : List ℕ) (n : ℕ) → row ≡ mapFirst f 0 n old → n ≡ length old → row ≡ mapWords f old
-  all-turns old row n e h = e ∙ ap (λ (k : ℕ). mapFirst f 0 k old) h
+  pub all_turns : (old row : List ℕ) (n : ℕ) → row ≡ map_first f 0 n old → n ≡ length old → row ≡ map_words f old
+  all_turns old row n e h = e ∙ ap (λ (k : ℕ). map_first f 0 k old) h
 
-  no_words : (i n : ℕ) → mapFirst f i n [] ≡ mapFirst f i 0 []
+  no_words : (i n : ℕ) → map_first f i n [] ≡ map_first f i 0 []
   no_words i zero = refl
   no_words i (suc n) = refl
 
   -- words that f leaves as they are
-  pub rest-stays : (i n : ℕ) (l : List ℕ) → ((p : ℕ) → i + n ≤ p → p < i + length l → (w : ℕ) → w ≡ f p w) → mapFirst f i n l ≡ mapFirst f i (length l) l
-  rest-stays i n [] h = no_words i n
-  rest-stays i zero (w ∷ ws) h =
-      ap (λ (x : ℕ). x ∷ ws) (h i (omega arith) (omega arith) w) ∙ ap (λ (l : List ℕ). f i w ∷ l) (rest-stays (suc i) zero ws (λ (p : ℕ) a b. h p (omega arith) (omega arith)))
-  rest-stays i (suc n) (w ∷ ws) h =
-      ap (λ (l : List ℕ). f i w ∷ l) (rest-stays (suc i) n ws (λ (p : ℕ) a b. h p (omega arith) (omega arith)))
+  pub rest_stays : (i n : ℕ) (l : List ℕ) → ((p : ℕ) → i + n ≤ p → p < i + length l → (w : ℕ) → w ≡ f p w) → map_first f i n l ≡ map_first f i (length l) l
+  rest_stays i n [] h = no_words i n
+  rest_stays i zero (w ∷ ws) h =
+      ap (λ (x : ℕ). x ∷ ws) (h i (omega arith) (omega arith) w) ∙ ap (λ (l : List ℕ). f i w ∷ l) (rest_stays (suc i) zero ws (λ (p : ℕ) a b. h p (omega arith) (omega arith)))
+  rest_stays i (suc n) (w ∷ ws) h =
+      ap (λ (l : List ℕ). f i w ∷ l) (rest_stays (suc i) n ws (λ (p : ℕ) a b. h p (omega arith) (omega arith)))
 
   -- words whose index is told from another start
-  pub from_start : (s i n : ℕ) (l : List ℕ) → mapFirst f (s + i) n l ≡ mapFirst (λ (k : ℕ). f (s + k)) i n l
+  pub from_start : (s i n : ℕ) (l : List ℕ) → map_first f (s + i) n l ≡ map_first (λ (k : ℕ). f (s + k)) i n l
   from_start s i zero l = refl
   from_start s i (suc n) [] = refl
   from_start s i (suc n) (w ∷ ws) =
-      ap (λ (l : List ℕ). f (s + i) w ∷ l) (ap (λ (k : ℕ). mapFirst f k n ws) (sym (add-suc s i)) ∙ from_start s (suc i) n ws)
+      ap (λ (l : List ℕ). f (s + i) w ∷ l) (ap (λ (k : ℕ). map_first f k n ws) (sym (add-suc s i)) ∙ from_start s (suc i) n ws)
 
 -- a part is as long as it was asked for, or shorter
 pub part_length : (k : ℕ) (l : List ℕ) → length (take k l) ≤ k
@@ -92,11 +92,11 @@ part_length (suc k) [] = zero-le
 part_length (suc k) (w ∷ ws) = omega (arith, part_length k ws)
 
 -- two functions that agree on the words of a list
-pub same-words : (f g : ℕ → ℕ → ℕ) (i n : ℕ) (l : List ℕ) → ((p : ℕ) → p < i + n → (w : ℕ) → f p w ≡ g p w) → mapFirst f i n l ≡ mapFirst g i n l
-same-words f g i zero l h = refl
-same-words f g i (suc n) [] h = refl
-same-words f g i (suc n) (w ∷ ws) h =
-    ap (λ (x : ℕ). x ∷ mapFirst f (suc i) n ws) (h i (omega arith) w) ∙ ap (λ (l : List ℕ). g i w ∷ l) (same-words f g (suc i) n ws (λ (p : ℕ) a. h p (omega arith)))
+pub same_words : (f g : ℕ → ℕ → ℕ) (i n : ℕ) (l : List ℕ) → ((p : ℕ) → p < i + n → (w : ℕ) → f p w ≡ g p w) → map_first f i n l ≡ map_first g i n l
+same_words f g i zero l h = refl
+same_words f g i (suc n) [] h = refl
+same_words f g i (suc n) (w ∷ ws) h =
+    ap (λ (x : ℕ). x ∷ map_first f (suc i) n ws) (h i (omega arith) w) ∙ ap (λ (l : List ℕ). g i w ∷ l) (same_words f g (suc i) n ws (λ (p : ℕ) a. h p (omega arith)))
 
 -- a list from its two parts, and a part put back where it stood
 from_parts : (n : ℕ) (l : List ℕ) → take n l ++ drop n l ≡ l
@@ -104,30 +104,30 @@ from_parts zero l = refl
 from_parts (suc n) [] = refl
 from_parts (suc n) (w ∷ ws) = ap (λ (l : List ℕ). w ∷ l) (from_parts n ws)
 
-part-own : (start k : ℕ) (l : List ℕ) → put_mid start k l (take k (drop start l)) ≡ l
-part-own start k l = ap (λ (ys : List ℕ). take start l ++ ys) (from_parts k (drop start l)) ∙ from_parts start l
+part_own : (start k : ℕ) (l : List ℕ) → put_mid start k l (take k (drop start l)) ≡ l
+part_own start k l = ap (λ (ys : List ℕ). take start l ++ ys) (from_parts k (drop start l)) ∙ from_parts start l
 
 -- a turn of a loop that finds the next part as f leaves it
-pub still_part : (f : ℕ → ℕ → ℕ) (l : List ℕ) (p k : ℕ) → l ≡ mapFirst f 0 p l → p ≤ length l → take k (drop p l) ≡ mapFirst f p (length (take k (drop p l))) (take k (drop p l)) → l ≡ mapFirst f 0 (p + k) l
-still_part f l p k e h q = sym (part-own p k l) ∙ part-turn f l l (take k (drop p l)) p k e h q
+pub still_part : (f : ℕ → ℕ → ℕ) (l : List ℕ) (p k : ℕ) → l ≡ map_first f 0 p l → p ≤ length l → take k (drop p l) ≡ map_first f p (length (take k (drop p l))) (take k (drop p l)) → l ≡ map_first f 0 (p + k) l
+still_part f l p k e h q = sym (part_own p k l) ∙ part_turn f l l (take k (drop p l)) p k e h q
 
 -- a part that was lent and came back as ys
-pub put-part : (f : List ℕ → List ℕ) (start size k : ℕ) (l ys : List ℕ) → k ≡ size → ys ≡ f (take k (drop start l)) → put_mid start k l ys ≡ inPart start size f l
-put-part f start size k l ys e q = rw (q, e)
+pub put_part : (f : List ℕ → List ℕ) (start size k : ℕ) (l ys : List ℕ) → k ≡ size → ys ≡ f (take k (drop start l)) → put_mid start k l ys ≡ in_part start size f l
+put_part f start size k l ys e q = rw (q, e)
 
 -- a row that f leaves as it is
-pub still-row : (f : List ℕ → List ℕ) (size c k : ℕ) (l : List ℕ) → k ≡ size → take k (drop (c * size) l) ≡ f (take k (drop (c * size) l)) → l ≡ in_row size c f l
+pub still_row : (f : List ℕ → List ℕ) (size c k : ℕ) (l : List ℕ) → k ≡ size → take k (drop (c * size) l) ≡ f (take k (drop (c * size) l)) → l ≡ in_row size c f l
 unfolding in_row
-still-row f size c k l e q = go (leb (c * size + size) (length l))
+still_row f size c k l e q = go (leb (c * size + size) (length l))
   where
-    go : (b : Bool) → l ≡ cond b (inPart (c * size) size f l) l
-    go true = sym (part-own (c * size) k l) ∙ put-part f (c * size) size k l (take k (drop (c * size) l)) e q
+    go : (b : Bool) → l ≡ cond b (in_part (c * size) size f l) l
+    go true = sym (part_own (c * size) k l) ∙ put_part f (c * size) size k l (take k (drop (c * size) l)) e q
     go false = refl
 
 -- a row that was lent and came back as ys
-pub put-row : (f : List ℕ → List ℕ) (size c k : ℕ) (l ys : List ℕ) → k ≡ size → c * size + size ≤ length l → ys ≡ f (take k (drop (c * size) l)) → put_mid (c * size) k l ys ≡ in_row size c f l
+pub put_row : (f : List ℕ → List ℕ) (size c k : ℕ) (l ys : List ℕ) → k ≡ size → c * size + size ≤ length l → ys ≡ f (take k (drop (c * size) l)) → put_mid (c * size) k l ys ≡ in_row size c f l
 unfolding in_row
-put-row f size c k l ys e h q = rw (le-leb (c * size + size) (length l) h) (put-part f (c * size) size k l ys e q)
+put_row f size c k l ys e h q = rw (le-leb (c * size + size) (length l) h) (put_part f (c * size) size k l ys e q)
 
 -- no such row
 pub no_row : (f : List ℕ → List ℕ) (size c : ℕ) (l : List ℕ) → length l < c * size + size → l ≡ in_row size c f l
@@ -135,36 +135,36 @@ unfolding in_row
 no_row f size c l h = rw (lt-leb (c * size + size) (length l) h)
 
 -- a turn of a loop that changes one row after the other
-pub row-turn : (f : List ℕ → List ℕ) (size c : ℕ) (old l new : List ℕ) → l ≡ eachRow size c f old → new ≡ in_row size c f l → new ≡ eachRow size (c + 1) f old
-unfolding eachRow
-row-turn f size c old l new w q = rw add-one (q ∙ ap (in_row size c f) w)
+pub row_turn : (f : List ℕ → List ℕ) (size c : ℕ) (old l new : List ℕ) → l ≡ each_row size c f old → new ≡ in_row size c f l → new ≡ each_row size (c + 1) f old
+unfolding each_row
+row_turn f size c old l new w q = rw add-one (q ∙ ap (in_row size c f) w)
 
 -- ── Rows of a size that is told, lent from where they start ──
 
 -- a row that stands there was lent and came back as ys
-pub put-at : (f : List ℕ → List ℕ) (size row start words k : ℕ) (l ys : List ℕ) → start ≡ row * size → words ≡ size → start + words ≤ length l →
+pub put_at : (f : List ℕ → List ℕ) (size row start words k : ℕ) (l ys : List ℕ) → start ≡ row * size → words ≡ size → start + words ≤ length l →
     k ≡ words → ys ≡ f (take k (drop start l)) → put_mid start k l ys ≡ in_row size row f l
-put-at f size row start words k l ys place is room e q =
+put_at f size row start words k l ys place is room e q =
     ap (λ (s : ℕ). put_mid s k l ys) place
-    ∙ put-row f size row k l ys (e ∙ is) (rw (← place, ← is) room) (q ∙ ap (λ (s : ℕ). f (take k (drop s l))) place)
+    ∙ put_row f size row k l ys (e ∙ is) (rw (← place, ← is) room) (q ∙ ap (λ (s : ℕ). f (take k (drop s l))) place)
 
 -- a row that has room was lent from where it starts, and came back as ys
-pub put-from : (f : List ℕ → List ℕ) (size row start words k : ℕ) (l ys : List ℕ) → start ≡ rowStart size row (length l) → words ≡ size → start + words ≤ length l →
+pub put_from : (f : List ℕ → List ℕ) (size row start words k : ℕ) (l ys : List ℕ) → start ≡ row_start size row (length l) → words ≡ size → start + words ≤ length l →
     k ≡ words → ys ≡ f (take k (drop start l)) → put_mid start k l ys ≡ in_row size row f l
-put-from f size row start words k l ys at is room e q =
-    put-at f size row start words k l ys (at ∙ start-place size row (length l) (rw (← at, ← is) room)) is room e q
+put_from f size row start words k l ys at is room e q =
+    put_at f size row start words k l ys (at ∙ start_place size row (length l) (rw (← at, ← is) room)) is room e q
 
 -- a row past the whole rows is not there; where rows have no words, f has none to change
-pub none-past : (f : List ℕ → List ℕ) (size row count : ℕ) (l : List ℕ) → f [] ≡ [] → count ≡ length l / size → count ≤ row → l ≡ in_row size row f l
-none-past f zero row count l nothing many h = sym (unfold in_row in rw (mul-zero row, le-leb 0 (length l) zero-le) (ap (λ (ys : List ℕ). ys ++ l) nothing))
-none-past f (suc s) row count l nothing many h =
-    let past : length l < suc row * suc s = row-past (length l) (suc s) (suc row) (zero-lt-suc s) (omega arith) in
+pub none_past : (f : List ℕ → List ℕ) (size row count : ℕ) (l : List ℕ) → f [] ≡ [] → count ≡ length l / size → count ≤ row → l ≡ in_row size row f l
+none_past f zero row count l nothing many h = sym (unfold in_row in rw (mul-zero row, le-leb 0 (length l) zero-le) (ap (λ (ys : List ℕ). ys ++ l) nothing))
+none_past f (suc s) row count l nothing many h =
+    let past : length l < suc row * suc s = row_past (length l) (suc s) (suc row) (zero-lt-suc s) (omega arith) in
     let step : suc row * suc s ≡ row * suc s + suc s = suc-mul row (suc s) in
     no_row f (suc s) row l (omega arith)
 
 -- a row that f leaves as it is, seen from where it starts
-pub still-from : (f : List ℕ → List ℕ) (size row start words k : ℕ) (l : List ℕ) → start ≡ rowStart size row (length l) → words ≡ size → start + words ≤ length l →
+pub still_from : (f : List ℕ → List ℕ) (size row start words k : ℕ) (l : List ℕ) → start ≡ row_start size row (length l) → words ≡ size → start + words ≤ length l →
     k ≡ words → take k (drop start l) ≡ f (take k (drop start l)) → l ≡ in_row size row f l
-still-from f size row start words k l at is room e q =
-    let place = at ∙ start-place size row (length l) (rw (← at, ← is) room) in
-    still-row f size row k l (e ∙ is) (sym (ap (λ (s : ℕ). take k (drop s l)) place) ∙ q ∙ ap (λ (s : ℕ). f (take k (drop s l))) place)
+still_from f size row start words k l at is room e q =
+    let place = at ∙ start_place size row (length l) (rw (← at, ← is) room) in
+    still_row f size row k l (e ∙ is) (sym (ap (λ (s : ℕ). take k (drop s l)) place) ∙ q ∙ ap (λ (s : ℕ). f (take k (drop s l))) place)

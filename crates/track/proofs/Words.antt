@@ -4,15 +4,15 @@ use mathlib.Core.Path.{◌≡◌, refl}
 use mathlib.Core.Bool.{false}
 use lib.Dec.{eqb}
 use borrow.Author.Tests.{eq-eqb, ne_eqb, lt-ltb}
-use Rattle.model.specs.Limits.{wordLimit}
-use Rattle.model.specs.step.Track.{isEntry}
+use Rattle.model.specs.Limits.{word_limit}
+use Rattle.model.specs.step.Track.{is_entry}
 
 -- by the two low bits of a word of 32 bits
-module _ (g w : ℕ) (fits : w < wordLimit) where
-  pub entry-if : w % 4 ≡ 2 → eqb (w / 128 % 2) g ≡ isEntry g w
-  unfolding isEntry
-  entry-if h = simp (lt-ltb w wordLimit fits, eq-eqb (w % 4) 2 h) refl
+module _ (g w : ℕ) (fits : w < word_limit) where
+  pub entry_if : w % 4 ≡ 2 → eqb (w / 128 % 2) g ≡ is_entry g w
+  unfolding is_entry
+  entry_if h = simp (lt-ltb w word_limit fits, eq-eqb (w % 4) 2 h) refl
 
-  pub entry-only-if : (w % 4 ≡ 2 → ⊥) → false ≡ isEntry g w
-  unfolding isEntry
-  entry-only-if h = simp (lt-ltb w wordLimit fits, ne_eqb (w % 4) 2 h) refl
+  pub entry_only_if : (w % 4 ≡ 2 → ⊥) → false ≡ is_entry g w
+  unfolding is_entry
+  entry_only_if h = simp (lt-ltb w word_limit fits, ne_eqb (w % 4) 2 h) refl

@@ -2,16 +2,16 @@
 // page of the window, and is lent on by itself. What is done to a word or a row is told the row's kind by the number `global`: 0 for a
 // context's row, 1 for the global row.
 ghost use Rattle.std.specs.Prelude.{◌≡◌};
-ghost use Rattle.model.specs.Limits.{rowSize};
+ghost use Rattle.model.specs.Limits.{row_size};
 ghost use Rattle.model.specs.step.Rows.{in_row};
-ghost use Rattle.model.specs.step.Track.{isEntry, addEntry, emptyPage, emptyRow, flushAll, flushPage, flushContext, flushPageIn, wordAt, staleWord, stalePage};
+ghost use Rattle.model.specs.step.Track.{is_entry, add_entry, empty_page, empty_row, flush_all, flush_page, flush_context, flush_page_in, word_at, stale_word, stale_page};
 
 use limits::{last_row, row_size, row_start, rows};
 use model::Outcome;
 
 // Whether a word of a row of this kind stands for one entry.
 pub fn is_entry(global: u32, w: u32) -> bool
-    ensures { result ≡ isEntry global w }
+    ensures { result ≡ is_entry global w }
 {
     let low = w % 4;
     if low == 2 {
@@ -22,7 +22,7 @@ pub fn is_entry(global: u32, w: u32) -> bool
 
 // A word of such a row after the entry with word v was added to its set.
 pub fn add_entry(global: u32, w: u32, v: u32) -> u32
-    ensures { result ≡ addEntry global w v }
+    ensures { result ≡ add_entry global w v }
 {
     if w == 0 {
         return v;
@@ -38,7 +38,7 @@ pub fn add_entry(global: u32, w: u32, v: u32) -> u32
 
 // Empties every set of a row.
 pub fn empty_row(row: &mut [u32])
-    ensures { row.new ≡ emptyRow row.old }
+    ensures { row.new ≡ empty_row row.old }
 {
     let mut p = 0;
     while p < row.len() {
@@ -49,7 +49,7 @@ pub fn empty_row(row: &mut [u32])
 
 // Empties the set of one page of a row.
 pub fn empty_page(row: &mut [u32], page: usize)
-    ensures { row.new ≡ emptyPage page row.old }
+    ensures { row.new ≡ empty_page page row.old }
 {
     if page < row.len() {
         row[page] = 0;
@@ -58,7 +58,7 @@ pub fn empty_page(row: &mut [u32], page: usize)
 
 // Empties the row of a context, where the track has it.
 pub fn flush_context(window: u32, track: &mut [u32], context: usize)
-    ensures { track.new ≡ flushContext window context track.old }
+    ensures { track.new ≡ flush_context window context track.old }
 {
     if context < rows(window, track.len()) {
         let size = row_size(window);
@@ -70,7 +70,7 @@ pub fn flush_context(window: u32, track: &mut [u32], context: usize)
 
 // Empties the set of a page in one row of a track, where the track has it.
 fn empty_in(window: u32, track: &mut [u32], row: usize, page: usize)
-    ensures { track.new ≡ in_row (rowSize window) row (emptyPage page) track.old }
+    ensures { track.new ≡ in_row (row_size window) row (empty_page page) track.old }
 {
     if row < rows(window, track.len()) {
         let size = row_size(window);
@@ -82,7 +82,7 @@ fn empty_in(window: u32, track: &mut [u32], row: usize, page: usize)
 
 // Empties the set of a page in a context, where the track has it, and its global set.
 pub fn flush_page_in(window: u32, track: &mut [u32], context: usize, page: usize)
-    ensures { track.new ≡ flushPageIn window context page track.old }
+    ensures { track.new ≡ flush_page_in window context page track.old }
 {
     let last = last_row(window, track.len());
     empty_in(window, track, context, page);
@@ -91,7 +91,7 @@ pub fn flush_page_in(window: u32, track: &mut [u32], context: usize, page: usize
 
 // Empties every set.
 pub fn flush_all(window: u32, track: &mut [u32])
-    ensures { track.new ≡ flushAll window track.old }
+    ensures { track.new ≡ flush_all window track.old }
 {
     let k = rows(window, track.len());
     let mut c = 0;
@@ -103,7 +103,7 @@ pub fn flush_all(window: u32, track: &mut [u32])
 
 // Empties the set of a page in every context, and its global set.
 pub fn flush_page(window: u32, track: &mut [u32], page: usize)
-    ensures { track.new ≡ flushPage window page track.old }
+    ensures { track.new ≡ flush_page window page track.old }
 {
     let size = row_size(window);
     let k = rows(window, track.len());
@@ -119,7 +119,7 @@ pub fn flush_page(window: u32, track: &mut [u32], page: usize)
 
 // The word of a row and a page, or 0 where the track has none.
 pub fn word_at(window: u32, track: &[u32], row: usize, page: usize) -> u32
-    ensures { result ≡ wordAt window track.now row page }
+    ensures { result ≡ word_at window track.now row page }
 {
     let start = row_start(window, row, track.len());
     if page < track.len() - start {
@@ -130,7 +130,7 @@ pub fn word_at(window: u32, track: &[u32], row: usize, page: usize) -> u32
 
 // Whether a word of a row of this kind makes its page stale.
 pub fn is_stale(global: u32, w: u32, o: Outcome) -> bool
-    ensures { result ≡ staleWord global w o }
+    ensures { result ≡ stale_word global w o }
 {
     if w == 0 {
         return false;
@@ -152,7 +152,7 @@ pub fn is_stale(global: u32, w: u32, o: Outcome) -> bool
 
 // Whether a page with this outcome is stale, by its word in the row of a context or by its word in the global row.
 pub fn is_stale_page(window: u32, track: &[u32], context: u32, page: usize, o: Outcome) -> bool
-    ensures { result ≡ stalePage window track.now context page o }
+    ensures { result ≡ stale_page window track.now context page o }
 {
     let own = word_at(window, track, context as usize, page);
     if is_stale(0, own, o) {

@@ -1,9 +1,9 @@
 // Reads, writes and fetches carried out, and noting, which follows whatever is carried out.
 ghost use Rattle.std.specs.Prelude.{◌≡◌};
-ghost use Rattle.model.specs.Limits.{oldWindow};
-ghost use Rattle.model.specs.step.Machine.{Gives, carried, value_of, readFrom, writeTo, read_step, writeStep, fetchStep, tables_of};
-ghost use Rattle.model.specs.step.Memory.{writtenAt};
-ghost use Rattle.model.specs.step.Track.{noteTrack};
+ghost use Rattle.model.specs.Limits.{old_window};
+ghost use Rattle.model.specs.step.Machine.{Gives, carried, value_of, read_from, write_to, read_step, write_step, fetch_step, tables_of};
+ghost use Rattle.model.specs.step.Memory.{written_at};
+ghost use Rattle.model.specs.step.Track.{note_track};
 
 use access::access_at;
 use model::{
@@ -51,7 +51,7 @@ pub fn carry_flushed(answer: Answer, r: Registers, m: &[u8], t: &mut [u32]) -> R
 
 // Stores, then notes with the memory that is left.
 pub fn store_and_note(at: usize, size: Size, v: u32, r: Registers, m: &mut [u8], t: &mut [u32])
-    ensures { (m.new ≡ writtenAt size m.old at v) × (t.new ≡ noteTrack oldWindow m.new (tables_of r) r.context t.old) }
+    ensures { (m.new ≡ written_at size m.old at v) × (t.new ≡ note_track old_window m.new (tables_of r) r.context t.old) }
 {
     let tables = Tables { root: r.root };
     memory::store(m, at, size, v);
@@ -60,7 +60,7 @@ pub fn store_and_note(at: usize, size: Size, v: u32, r: Registers, m: &mut [u8],
 
 // A read or a fetch, by what its access comes to.
 fn read_from(x: Access, size: Size, r: Registers, m: &[u8], t: &mut [u32]) -> Returned
-    ensures { Gives (readFrom x size r m.now t.old) result m.now t.new }
+    ensures { Gives (read_from x size r m.now t.old) result m.now t.new }
 {
     match x {
         Access::Stale => Returned {
@@ -77,7 +77,7 @@ fn read_from(x: Access, size: Size, r: Registers, m: &[u8], t: &mut [u32]) -> Re
 
 // A write, by what its access comes to.
 fn write_to(x: Access, size: Size, v: u32, r: Registers, m: &mut [u8], t: &mut [u32]) -> Returned
-    ensures { Gives (writeTo x size v r m.old t.old) result m.new t.new }
+    ensures { Gives (write_to x size v r m.old t.old) result m.new t.new }
 {
     match x {
         Access::Stale => Returned {
@@ -105,7 +105,7 @@ pub fn read(a: u32, size: Size, r: Registers, m: &[u8], t: &mut [u32]) -> Return
 
 // A write whose fields have passed the checks.
 pub fn write(a: u32, size: Size, v: u32, r: Registers, m: &mut [u8], t: &mut [u32]) -> Returned
-    ensures { Gives (writeStep a size v r m.old t.old) result m.new t.new }
+    ensures { Gives (write_step a size v r m.old t.old) result m.new t.new }
 {
     let x = access_at(r, m, t, Purpose::ToWrite, size, a);
     write_to(x, size, v, r, m, t)
@@ -113,7 +113,7 @@ pub fn write(a: u32, size: Size, v: u32, r: Registers, m: &mut [u8], t: &mut [u3
 
 // A fetch whose address has passed the checks: four bytes.
 pub fn fetch(a: u32, r: Registers, m: &[u8], t: &mut [u32]) -> Returned
-    ensures { Gives (fetchStep a r m.now t.old) result m.now t.new }
+    ensures { Gives (fetch_step a r m.now t.old) result m.now t.new }
 {
     let x = access_at(r, m, t, Purpose::ToFetch, Size::Four, a);
     read_from(x, Size::Four, r, m, t)

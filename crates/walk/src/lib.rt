@@ -1,10 +1,10 @@
 // The walk of two-level tables in byte memory, and the same as a C function over an image.
 ghost use Rattle.std.specs.Prelude.{◌≡◌, ◌<◌};
-ghost use Rattle.model.specs.Numbers.{faultNumber, firstFault};
+ghost use Rattle.model.specs.Numbers.{fault_number, first_fault};
 ghost use Rattle.model.specs.Telling.{Tells};
-ghost use Rattle.model.specs.step.Walk.{first_at, secondAt, walkPage};
-ghost use Rattle.model.specs.step.WalkAnswer.{outcomeNumber, walkAnswer};
-ghost use Rattle.model.specs.step.Track.{entryWord};
+ghost use Rattle.model.specs.step.Walk.{first_at, second_at, walk_page};
+ghost use Rattle.model.specs.step.WalkAnswer.{outcome_number, walk_answer};
+ghost use Rattle.model.specs.step.Track.{entry_word};
 
 use descriptor::{first_of, second_of};
 use limits::{in_window, memory_fits, root_fits};
@@ -15,7 +15,7 @@ use model::{
 
 // The short-descriptor status code of a fault.
 pub fn fault_number(f: Fault) -> u32
-    ensures { (result ≡ faultNumber f) × (result < 16) }
+    ensures { (result ≡ fault_number f) × (result < 16) }
 {
     match f {
         Fault::Alignment => 1,
@@ -33,7 +33,7 @@ pub fn fault_number(f: Fault) -> u32
 
 // What level one says of a page.
 pub fn level_one(m: &[u8], tables: Tables, page: usize) -> FirstLevel
-    ensures { Tells firstFault (first_at m.now tables page) result }
+    ensures { Tells first_fault (first_at m.now tables page) result }
 {
     let at = tables.root as usize + 4 * (page / 256);
     match load(m, at, Size::Four) {
@@ -44,7 +44,7 @@ pub fn level_one(m: &[u8], tables: Tables, page: usize) -> FirstLevel
 
 // What a table says of a page.
 pub fn level_two(m: &[u8], table: Pointer, page: usize) -> Outcome
-    ensures { Tells outcomeNumber (secondAt m.now table page) result }
+    ensures { Tells outcome_number (second_at m.now table page) result }
 {
     let at = table.base as usize + 4 * (page % 256);
     match load(m, at, Size::Four) {
@@ -55,7 +55,7 @@ pub fn level_two(m: &[u8], table: Pointer, page: usize) -> Outcome
 
 // The walk of a page.
 pub fn walk(m: &[u8], tables: Tables, page: usize) -> Outcome
-    ensures { Tells outcomeNumber (walkPage m.now tables page) result }
+    ensures { Tells outcome_number (walk_page m.now tables page) result }
 {
     match level_one(m, tables, page) {
         FirstLevel::Failing(f) => Outcome::Failed(f),
@@ -66,7 +66,7 @@ pub fn walk(m: &[u8], tables: Tables, page: usize) -> Outcome
 
 // The track word of an entry.
 pub fn entry_word(e: Entry) -> u32
-    ensures { result ≡ entryWord e }
+    ensures { result ≡ entry_word e }
 {
     e.frame % 1048576 * 4096
         + e.ap % 8 * 512
@@ -79,7 +79,7 @@ pub fn entry_word(e: Entry) -> u32
 
 // What a walk finds, as a number: an entry's track word, or 0x100000000 plus a fault.
 fn outcome_number(o: Outcome) -> u64
-    ensures { result ≡ outcomeNumber o }
+    ensures { result ≡ outcome_number o }
 {
     match o {
         Outcome::Mapped(e) => entry_word(e) as u64,
@@ -90,12 +90,12 @@ fn outcome_number(o: Outcome) -> u64
 // The walk of one address: an entry's track word, 0x100000000 plus a fault, or 0x200000000 plus a refusal.
 #[unsafe(no_mangle)]
 pub extern "C" fn walk_image(image: &[u8], root: u32, address: u32) -> u64
-    ensures { result ≡ walkAnswer image.now root address }
+    ensures { result ≡ walk_answer image.now root address }
 {
     if memory_fits(image.len()) {
         if root_fits(OLD_SPLIT, root) {
             if in_window(OLD_WINDOW, address) {
-                return outcome_number(walk(image, Tables { root }, address as usize / 4096)); // pageSize
+                return outcome_number(walk(image, Tables { root }, address as usize / 4096)); // page_size
             }
             return 8589934600; // 0x200000000 plus refusal 8
         }

@@ -1,7 +1,7 @@
 use mathlib.Core.Path.{sym, ◌∙◌}
-use Rattle.model.specs.step.Machine.{accessAt}
+use Rattle.model.specs.step.Machine.{access_at}
 use Rattle.model.proofs.Tellings.{tells}
-use Rattle.model.specs.Numbers.{accessResult}
+use Rattle.model.specs.Numbers.{access_result}
 use borrow.Author.Rules.{rules}
 use Rattle.access.proofs.access_at.Statement.{statement}
 use Rattle.access.proofs.access_at.Tie as tie
@@ -21,9 +21,9 @@ decide-requires : tie.Need-decide-requires
 decide-requires c κs = search rules
 
 returns : tie.Need-returns
-unfolding accessAt
+unfolding access_at
 returns c = let w = c.before in let o = w.before in
-    tells accessResult (c.decide.ensures.same ∙ rw (w.is-stale-page.ensures, o.walk.ensures.same))
+    tells access_result (c.decide.ensures.same ∙ rw (w.is-stale-page.ensures, o.walk.ensures.same))
 
 pub access-at-spec : {M : Type 1} → statement M
 access-at-spec = tie.close (tie.spec walk-requires is-stale-page-requires decide-requires returns)

@@ -2,7 +2,7 @@ use borrow.Author.Tests.{eq-eqb, ne_eqb}
 use Rattle.model.specs.step.Machine.{decided}
 use Rattle.memory.proofs.Laws.{bytes_pos}
 use Rattle.model.proofs.Tellings.{tells}
-use Rattle.model.specs.Numbers.{accessResult}
+use Rattle.model.specs.Numbers.{access_result}
 use borrow.Author.Rules.{rules}
 use Rattle.access.proofs.decide.Statement.{statement}
 use Rattle.access.proofs.decide.Tie as tie
@@ -20,7 +20,7 @@ rem-rest c = rw c.bytes.ensures (bytes_pos c.before.before.args.size)
 returns : tie.Need-returns
 unfolding decided
 returns c = let e = c.before in
-    tells accessResult (simp (← e.before.bytes.ensures, eq-eqb _ _ e.if1.true, c.if2.true))
+    tells access_result (simp (← e.before.bytes.ensures, eq-eqb _ _ e.if1.true, c.if2.true))
 
 grant-requires : tie.Need-grant-requires
 grant-requires c κs = search rules
@@ -28,11 +28,11 @@ grant-requires c κs = search rules
 returns-2 : tie.Need-returns-2
 unfolding decided
 returns-2 c = let f = c.before in let e = f.before in
-    tells accessResult (simp (← e.before.bytes.ensures, eq-eqb _ _ e.if1.true, f.if2.false) c.grant.ensures.same)
+    tells access_result (simp (← e.before.bytes.ensures, eq-eqb _ _ e.if1.true, f.if2.false) c.grant.ensures.same)
 
 returns-3 : tie.Need-returns-3
 unfolding decided
-returns-3 c = tells accessResult (simp (← c.before.bytes.ensures, ne_eqb _ _ c.if1.false))
+returns-3 c = tells access_result (simp (← c.before.bytes.ensures, ne_eqb _ _ c.if1.false))
 
 pub decide-spec : {M : Type 1} → statement M
 decide-spec =

@@ -1,6 +1,6 @@
-use Rattle.model.specs.step.Machine.{domainFaultOf}
+use Rattle.model.specs.step.Machine.{domain_fault_of}
 use Rattle.model.proofs.Tellings.{tells}
-use Rattle.model.specs.Numbers.{faultNumber}
+use Rattle.model.specs.Numbers.{fault_number}
 use borrow.Author.Rules.{rules}
 use Rattle.access.proofs.domain_fault.Statement.{statement}
 use Rattle.access.proofs.domain_fault.Tie as tie
@@ -12,8 +12,8 @@ by-level-requires : tie.Need-by-level-requires
 by-level-requires c κs = search rules
 
 returns : tie.Need-returns
-unfolding domainFaultOf
-returns c = tells faultNumber c.by_level.ensures
+unfolding domain_fault_of
+returns c = tells fault_number c.by_level.ensures
 
 pub domain-fault-spec : {M : Type 1} → statement M
 domain-fault-spec = tie.close (tie.spec by-level-requires returns)

@@ -2,7 +2,7 @@ use Prim.Native.Nat.{ℕ, ◌-◌, ◌≤◌, zero-le}
 use native.Mathlib.Omega.{arith}
 use mathlib.Core.Path.{◌≡◌, sym, ap, ◌∙◌}
 use Rattle.model.specs.step.Rights.{field_at}
-use Rattle.access.proofs.Laws.{zero_field, next_field, last-field}
+use Rattle.access.proofs.Laws.{zero_field, next_field, last_field}
 use Rattle.access.proofs.field_of.Statement.{statement}
 use Rattle.access.proofs.field_of.Tie as tie
 use Rattle.access.proofs.field_of.Reads as reads
@@ -35,7 +35,7 @@ loop-again c = let l = c.before.before in let a = l.before.args in
 
 returns-2 : tie.Need-returns-2 invariant-loop decreases-loop
 returns-2 c = let l = c.before in let a = l.before.args in
-    sym (last-field a.domain l.loop.i l.loop.left (omega arith)) ∙ l.loop.invariant.1
+    sym (last_field a.domain l.loop.i l.loop.left (omega arith)) ∙ l.loop.invariant.1
 
 pub field-of-spec : {M : Type 1} → statement M
 field-of-spec =

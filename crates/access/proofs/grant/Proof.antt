@@ -1,9 +1,9 @@
 use mathlib.Core.Path.{sym, ap}
 use Rattle.model.specs.declared.Outcome.{Outcome}
 use Rattle.model.specs.step.Machine.{granted}
-use Rattle.access.proofs.Laws.{granted-by}
+use Rattle.access.proofs.Laws.{granted_by}
 use Rattle.model.proofs.Tellings.{tells}
-use Rattle.model.specs.Numbers.{accessResult}
+use Rattle.model.specs.Numbers.{access_result}
 use borrow.Author.Rules.{rules}
 use Rattle.access.proofs.grant.Statement.{statement}
 use Rattle.access.proofs.grant.Tie as tie
@@ -30,12 +30,12 @@ reach-requires c κs = search rules
 
 returns : tie.Need-returns
 returns c = let k = c.before in let a = k.before.before.before.args in
-    tells accessResult (sym (ap (λ (z : Outcome). granted z a.r a.purpose a.size a.a a.m.now) k.o.given.1))
+    tells access_result (sym (ap (λ (z : Outcome). granted z a.r a.purpose a.size a.a a.m.now) k.o.given.1))
 
 returns-2 : tie.Need-returns-2
 returns-2 c =
     let f = c.before.before in let k = f.before.before in let a = k.before.before.before.args in
-    tells accessResult (granted-by a.r a.purpose a.size a.a a.m.now k.o2.given.0.0 k.o2.given.1 f.field_of.ensures c.before.rule.ensures.same c.reach.ensures.same)
+    tells access_result (granted_by a.r a.purpose a.size a.a a.m.now k.o2.given.0.0 k.o2.given.1 f.field_of.ensures c.before.rule.ensures.same c.reach.ensures.same)
 
 pub grant-spec : {M : Type 1} → statement M
 grant-spec =

@@ -3,7 +3,7 @@ use Rattle.model.specs.declared.Ruling.{Ruling}
 use Rattle.model.specs.declared.Access.TheVariants.{Fails}
 use Rattle.model.specs.step.Machine.{reached}
 use Rattle.model.proofs.Tellings.{tells}
-use Rattle.model.specs.Numbers.{accessResult}
+use Rattle.model.specs.Numbers.{access_result}
 use borrow.Author.Rules.{rules}
 use Rattle.access.proofs.reach.Statement.{statement}
 use Rattle.access.proofs.reach.Tie as tie
@@ -42,19 +42,19 @@ enum-told-3 c = search rules
 
 returns : tie.Need-returns
 returns c = let e = c.before in let i = e.before.before.before.before in let a = i.before.before.before.args in
-    tells accessResult (sym (ap (λ (y : Ruling). reached y a.e a.size a.a a.m.now) e.enum-told3.given.1 ∙ simp (sym i.inside.ensures ∙ c.if1.true)))
+    tells access_result (sym (ap (λ (y : Ruling). reached y a.e a.size a.a a.m.now) e.enum-told3.given.1 ∙ simp (sym i.inside.ensures ∙ c.if1.true)))
 
 returns-2 : tie.Need-returns-2
 returns-2 c = let d = c.before.before in let a = d.before.before.before.before.before.args in
-    tells accessResult (ap Fails d.domain-fault.ensures.same ∙ sym (ap (λ (y : Ruling). reached y a.e a.size a.a a.m.now) c.enum_told.given.1))
+    tells access_result (ap Fails d.domain-fault.ensures.same ∙ sym (ap (λ (y : Ruling). reached y a.e a.size a.a a.m.now) c.enum_told.given.1))
 
 returns-3 : tie.Need-returns-3
 returns-3 c = let p = c.before.before.before in let a = p.before.before.before.before.args in
-    tells accessResult (ap Fails p.permission-fault.ensures.same ∙ sym (ap (λ (y : Ruling). reached y a.e a.size a.a a.m.now) c.enum-told2.given.1))
+    tells access_result (ap Fails p.permission-fault.ensures.same ∙ sym (ap (λ (y : Ruling). reached y a.e a.size a.a a.m.now) c.enum-told2.given.1))
 
 returns-4 : tie.Need-returns-4
 returns-4 c = let e = c.before in let i = e.before.before.before.before in let a = i.before.before.before.args in
-    tells accessResult (sym (ap (λ (y : Ruling). reached y a.e a.size a.a a.m.now) e.enum-told3.given.1 ∙ simp (sym i.inside.ensures ∙ c.if1.false)))
+    tells access_result (sym (ap (λ (y : Ruling). reached y a.e a.size a.a a.m.now) e.enum-told3.given.1 ∙ simp (sym i.inside.ensures ∙ c.if1.false)))
 
 pub reach-spec : {M : Type 1} → statement M
 reach-spec =

@@ -1,6 +1,6 @@
 use mathlib.Core.Path.{ap, ◌∙◌}
-use Rattle.model.specs.step.Checks.{registersFit, contextFits, checks}
-use Rattle.checks.proofs.Laws.{passed, failed, as-tested}
+use Rattle.model.specs.step.Checks.{registers_fit, context_fits, checks}
+use Rattle.checks.proofs.Laws.{passed, failed, as_tested}
 use borrow.Author.Rules.{rules}
 use Rattle.checks.proofs.check.Statement.{statement}
 use Rattle.checks.proofs.check.Tie as tie
@@ -70,7 +70,7 @@ returns-2 c = let i1 = c.before in let f11 = i1.before in let f10 = f11.before i
     let f4 = f5.before in let f3 = f4.before in let f2 = f3.before in let k = f2.before in
     let f1 = k.before in
     passed _ _ f1.lengths-fit.ensures i1.if1.false (
-    failed _ _ (f2.registers-fit.ensures ∙ ap (registersFit _) k.last_row.ensures) c.if2.true)
+    failed _ _ (f2.registers-fit.ensures ∙ ap (registers_fit _) k.last_row.ensures) c.if2.true)
 
 returns-3 : tie.Need-returns-3
 unfolding checks
@@ -79,7 +79,7 @@ returns-3 c = let i2 = c.before in let i1 = i2.before in let f11 = i1.before in 
     let f5 = f6.before in let f4 = f5.before in let f3 = f4.before in let f2 = f3.before in
     let k = f2.before in let f1 = k.before in
     passed _ _ f1.lengths-fit.ensures i1.if1.false (
-    passed _ _ (f2.registers-fit.ensures ∙ ap (registersFit _) k.last_row.ensures) i2.if2.false (
+    passed _ _ (f2.registers-fit.ensures ∙ ap (registers_fit _) k.last_row.ensures) i2.if2.false (
     failed _ _ f3.size-fits.ensures c.if3.true))
 
 returns-4 : tie.Need-returns-4
@@ -89,7 +89,7 @@ returns-4 c = let i3 = c.before in let i2 = i3.before in let i1 = i2.before in l
     let f6 = f7.before in let f5 = f6.before in let f4 = f5.before in let f3 = f4.before in
     let f2 = f3.before in let k = f2.before in let f1 = k.before in
     passed _ _ f1.lengths-fit.ensures i1.if1.false (
-    passed _ _ (f2.registers-fit.ensures ∙ ap (registersFit _) k.last_row.ensures) i2.if2.false (
+    passed _ _ (f2.registers-fit.ensures ∙ ap (registers_fit _) k.last_row.ensures) i2.if2.false (
     passed _ _ f3.size-fits.ensures i3.if3.false (
     failed _ _ f4.address-fits.ensures c.if4.true)))
 
@@ -100,7 +100,7 @@ returns-5 c = let i4 = c.before in let i3 = i4.before in let i2 = i3.before in l
     let f7 = f8.before in let f6 = f7.before in let f5 = f6.before in let f4 = f5.before in
     let f3 = f4.before in let f2 = f3.before in let k = f2.before in let f1 = k.before in
     passed _ _ f1.lengths-fit.ensures i1.if1.false (
-    passed _ _ (f2.registers-fit.ensures ∙ ap (registersFit _) k.last_row.ensures) i2.if2.false (
+    passed _ _ (f2.registers-fit.ensures ∙ ap (registers_fit _) k.last_row.ensures) i2.if2.false (
     passed _ _ f3.size-fits.ensures i3.if3.false (
     passed _ _ f4.address-fits.ensures i4.if4.false (
     failed _ _ f5.value-fits.ensures c.if5.true))))
@@ -116,11 +116,11 @@ returns-6 c = let i5 = c.before in let i4 = i5.before in let i3 = i4.before in l
     let f4 = f5.before in let f3 = f4.before in let f2 = f3.before in let k = f2.before in
     let f1 = k.before in
     passed _ _ f1.lengths-fit.ensures i1.if1.false (
-    passed _ _ (f2.registers-fit.ensures ∙ ap (registersFit _) k.last_row.ensures) i2.if2.false (
+    passed _ _ (f2.registers-fit.ensures ∙ ap (registers_fit _) k.last_row.ensures) i2.if2.false (
     passed _ _ f3.size-fits.ensures i3.if3.false (
     passed _ _ f4.address-fits.ensures i4.if4.false (
     passed _ _ f5.value-fits.ensures i5.if5.false (
-    as-tested f6.new-root-fits.ensures (f7.context-fits.ensures ∙ ap (contextFits _ _ _) k.last_row.ensures) f8.mode-fits.ensures
+    as_tested f6.new-root-fits.ensures (f7.context-fits.ensures ∙ ap (context_fits _ _ _) k.last_row.ensures) f8.mode-fits.ensures
     f9.new-domains-fit.ensures f10.may-ask.ensures f11.root-may-change.ensures c.check-new-values.ensures)))))
 
 pub check-spec : {M : Type 1} → statement M

@@ -1,6 +1,6 @@
 use mathlib.Core.Path.{ap}
 use mathlib.Core.Bool.{not}
-use Rattle.model.specs.step.Checks.{startChecks}
+use Rattle.model.specs.step.Checks.{start_checks}
 use Rattle.checks.proofs.Laws.{passed, failed, none_left}
 use borrow.Author.Rules.{rules}
 use Rattle.checks.proofs.check_start.Statement.{statement}
@@ -14,21 +14,21 @@ lengths-fit-requires : tie.Need-lengths-fit-requires
 lengths-fit-requires c κs = search rules
 
 returns : tie.Need-returns
-unfolding startChecks
+unfolding start_checks
 returns c = failed _ _ c.before.lengths-fit.ensures c.if1.true
 
 root-fits-requires : tie.Need-root-fits-requires
 root-fits-requires c κs = search rules
 
 returns-2 : tie.Need-returns-2
-unfolding startChecks
+unfolding start_checks
 returns-2 c = let i1 = c.before.before in
     passed _ _ i1.before.lengths-fit.ensures i1.if1.false (
     passed _ _ c.before.root-fits.ensures (ap not c.if2.true) (
     none_left))
 
 returns-3 : tie.Need-returns-3
-unfolding startChecks
+unfolding start_checks
 returns-3 c = let i1 = c.before.before in
     passed _ _ i1.before.lengths-fit.ensures i1.if1.false (
     failed _ _ c.before.root-fits.ensures (ap not c.if2.false))

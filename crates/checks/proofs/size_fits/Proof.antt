@@ -2,7 +2,7 @@ use mathlib.Core.Path.{◌≡◌, refl, ap, sym, ◌∙◌}
 use mathlib.Core.List.{[], ◌∷◌}
 use mathlib.Core.Bool.{true}
 use Rattle.model.specs.declared.Kind.{Kind}
-use Rattle.model.specs.step.Checks.{sizeFits}
+use Rattle.model.specs.step.Checks.{size_fits}
 use Rattle.checks.proofs.Laws.{others}
 use borrow.Author.Rules.{rules}
 use Rattle.checks.proofs.size_fits.Statement.{statement}
@@ -24,19 +24,19 @@ is-size-requires-2 : tie.Need-is-size-requires-2
 is-size-requires-2 c κs = search rules
 
 returns : tie.Need-returns
-unfolding sizeFits
+unfolding size_fits
 returns c = let a = c.before.before.before.args in
-    c.is-size.ensures ∙ sym (ap (λ (k : Kind). sizeFits k a.b) c.before.enum_told.given.1)
+    c.is-size.ensures ∙ sym (ap (λ (k : Kind). size_fits k a.b) c.before.enum_told.given.1)
 
 returns-2 : tie.Need-returns-2
-unfolding sizeFits
+unfolding size_fits
 returns-2 c = let a = c.before.before.before.args in
-    c.is-size2.ensures ∙ sym (ap (λ (k : Kind). sizeFits k a.b) c.before.enum-told2.given.1)
+    c.is-size2.ensures ∙ sym (ap (λ (k : Kind). size_fits k a.b) c.before.enum-told2.given.1)
 
 returns-3 : tie.Need-returns-3
-unfolding sizeFits
+unfolding size_fits
 returns-3 c = let a = c.before.args in
-    others (2 ∷ 3 ∷ 4 ∷ 5 ∷ 6 ∷ 7 ∷ 8 ∷ 9 ∷ 10 ∷ []) (λ (k : Kind). true ≡ sizeFits k a.b) (tt, (tt, (refl, (refl, (refl, (refl, (refl, (refl, (refl, (refl, refl)))))))))) a.kind c.match.keys3
+    others (2 ∷ 3 ∷ 4 ∷ 5 ∷ 6 ∷ 7 ∷ 8 ∷ 9 ∷ 10 ∷ []) (λ (k : Kind). true ≡ size_fits k a.b) (tt, (tt, (refl, (refl, (refl, (refl, (refl, (refl, (refl, (refl, refl)))))))))) a.kind c.match.keys3
 
 pub size-fits-spec : {M : Type 1} → statement M
 size-fits-spec =

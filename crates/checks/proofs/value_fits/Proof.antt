@@ -2,7 +2,7 @@ use mathlib.Core.Path.{◌≡◌, refl, ap, sym, ◌∙◌}
 use mathlib.Core.List.{[], ◌∷◌}
 use mathlib.Core.Bool.{true}
 use Rattle.model.specs.declared.Kind.{Kind}
-use Rattle.model.specs.step.Checks.{valueFits}
+use Rattle.model.specs.step.Checks.{value_fits}
 use Rattle.checks.proofs.Laws.{others}
 use borrow.Author.Rules.{rules}
 use Rattle.checks.proofs.value_fits.Statement.{statement}
@@ -18,14 +18,14 @@ fits-size-requires : tie.Need-fits-size-requires
 fits-size-requires c κs = search rules
 
 returns : tie.Need-returns
-unfolding valueFits
+unfolding value_fits
 returns c = let a = c.before.before.before.args in
-    c.fits-size.ensures ∙ sym (ap (λ (k : Kind). valueFits k a.b a.c) c.before.enum_told.given.1)
+    c.fits-size.ensures ∙ sym (ap (λ (k : Kind). value_fits k a.b a.c) c.before.enum_told.given.1)
 
 returns-2 : tie.Need-returns-2
-unfolding valueFits
+unfolding value_fits
 returns-2 c = let a = c.before.args in
-    others (0 ∷ 2 ∷ 3 ∷ 4 ∷ 5 ∷ 6 ∷ 7 ∷ 8 ∷ 9 ∷ 10 ∷ []) (λ (k : Kind). true ≡ valueFits k a.b a.c) (refl, (tt, (refl, (refl, (refl, (refl, (refl, (refl, (refl, (refl, refl)))))))))) a.kind c.match.keys2
+    others (0 ∷ 2 ∷ 3 ∷ 4 ∷ 5 ∷ 6 ∷ 7 ∷ 8 ∷ 9 ∷ 10 ∷ []) (λ (k : Kind). true ≡ value_fits k a.b a.c) (refl, (tt, (refl, (refl, (refl, (refl, (refl, (refl, (refl, (refl, refl)))))))))) a.kind c.match.keys2
 
 pub value-fits-spec : {M : Type 1} → statement M
 value-fits-spec = tie.close (tie.spec enum_told fits-size-requires returns returns-2)

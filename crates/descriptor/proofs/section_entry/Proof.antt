@@ -1,6 +1,6 @@
 use Prim.Native.Nat.{ℕ}
 use mathlib.Core.Path.{ap}
-use Rattle.model.specs.step.Walk.{sectionEntry}
+use Rattle.model.specs.step.Walk.{section_entry}
 use Rattle.model.specs.declared.Entry.{Entry}
 use borrow.Author.Rules.{rules}
 use Rattle.descriptor.proofs.section_entry.Statement.{statement}
@@ -32,7 +32,7 @@ domain-of-requires c κs = search rules
 
 returns : tie.Need-returns
 returns c = let a = c.before.args in
-    let e : Entry = sectionEntry a.w a.page in
+    let e : Entry = section_entry a.w a.page in
     ap (λ (d : ℕ). record { frame = e.frame; ap = e.ap; section = 1; global = e.global; xn = e.xn; domain = d }) c.domain-of.ensures
 
 pub section-entry-spec : {M : Type 1} → statement M

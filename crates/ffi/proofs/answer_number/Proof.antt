@@ -1,6 +1,6 @@
 use mathlib.Core.Path.{sym, ap, ◌∙◌}
 use Prim.Native.Nat.{ℕ, ◌+◌}
-use Rattle.ffi.specs.Words.{kindFrom, operationFrom, registersFrom, registersInto, answerNumber, areWords}
+use Rattle.ffi.specs.Words.{kind_from, operation_from, registers_from, registers_into, answer_number, are_words}
 use borrow.Author.Rules.{rules}
 use Rattle.ffi.proofs.answer_number.Statement.{statement}
 use Rattle.ffi.proofs.answer_number.Tie as tie
@@ -43,10 +43,10 @@ returns : tie.Need-returns
 returns c = search rules
 
 returns-2 : tie.Need-returns-2
-returns-2 c = ap (λ (n : ℕ). 4294967296 + n) c.fault-number.ensures.0 ∙ sym (ap answerNumber c.before.before.x2.given.1)
+returns-2 c = ap (λ (n : ℕ). 4294967296 + n) c.fault-number.ensures.0 ∙ sym (ap answer_number c.before.before.x2.given.1)
 
 returns-3 : tie.Need-returns-3
-returns-3 c = ap (λ (n : ℕ). 8589934592 + n) c.refusal-number.ensures.0 ∙ sym (ap answerNumber c.before.before.x3.given.1)
+returns-3 c = ap (λ (n : ℕ). 8589934592 + n) c.refusal-number.ensures.0 ∙ sym (ap answer_number c.before.before.x3.given.1)
 
 pub answer-number-spec : {M : Type 1} → statement M
 answer-number-spec =

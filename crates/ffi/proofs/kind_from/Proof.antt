@@ -1,52 +1,52 @@
 use borrow.Author.Tests.{eq-eqb, ne_eqb}
-use Rattle.ffi.specs.Words.{kindFrom, operationFrom, registersFrom, registersInto, answerNumber, areWords}
+use Rattle.ffi.specs.Words.{kind_from, operation_from, registers_from, registers_into, answer_number, are_words}
 use Rattle.ffi.proofs.kind_from.Statement.{statement}
 use Rattle.ffi.proofs.kind_from.Tie as tie
 use Rattle.ffi.proofs.kind_from.Reads as reads
 use Rattle.ffi.proofs.kind_from.Lts as lts
 
 returns : tie.Need-returns
-unfolding kindFrom
+unfolding kind_from
 returns c = simp (eq-eqb _ _ c.if1.true)
 
 returns-2 : tie.Need-returns-2
-unfolding kindFrom
+unfolding kind_from
 returns-2 c = simp (ne_eqb _ _ c.before.if1.false, eq-eqb _ _ c.if2.true)
 
 returns-3 : tie.Need-returns-3
-unfolding kindFrom
+unfolding kind_from
 returns-3 c = simp (ne_eqb _ _ c.before.before.if1.false, ne_eqb _ _ c.before.if2.false, eq-eqb _ _ c.if3.true)
 
 returns-4 : tie.Need-returns-4
-unfolding kindFrom
+unfolding kind_from
 returns-4 c = simp (ne_eqb _ _ c.before.before.before.if1.false, ne_eqb _ _ c.before.before.if2.false, ne_eqb _ _ c.before.if3.false, eq-eqb _ _ c.if4.true)
 
 returns-5 : tie.Need-returns-5
-unfolding kindFrom
+unfolding kind_from
 returns-5 c = simp (ne_eqb _ _ c.before.before.before.before.if1.false, ne_eqb _ _ c.before.before.before.if2.false, ne_eqb _ _ c.before.before.if3.false, ne_eqb _ _ c.before.if4.false, eq-eqb _ _ c.if5.true)
 
 returns-6 : tie.Need-returns-6
-unfolding kindFrom
+unfolding kind_from
 returns-6 c = simp (ne_eqb _ _ c.before.before.before.before.before.if1.false, ne_eqb _ _ c.before.before.before.before.if2.false, ne_eqb _ _ c.before.before.before.if3.false, ne_eqb _ _ c.before.before.if4.false, ne_eqb _ _ c.before.if5.false, eq-eqb _ _ c.if6.true)
 
 returns-7 : tie.Need-returns-7
-unfolding kindFrom
+unfolding kind_from
 returns-7 c = simp (ne_eqb _ _ c.before.before.before.before.before.before.if1.false, ne_eqb _ _ c.before.before.before.before.before.if2.false, ne_eqb _ _ c.before.before.before.before.if3.false, ne_eqb _ _ c.before.before.before.if4.false, ne_eqb _ _ c.before.before.if5.false, ne_eqb _ _ c.before.if6.false, eq-eqb _ _ c.if7.true)
 
 returns-8 : tie.Need-returns-8
-unfolding kindFrom
+unfolding kind_from
 returns-8 c = simp (ne_eqb _ _ c.before.before.before.before.before.before.before.if1.false, ne_eqb _ _ c.before.before.before.before.before.before.if2.false, ne_eqb _ _ c.before.before.before.before.before.if3.false, ne_eqb _ _ c.before.before.before.before.if4.false, ne_eqb _ _ c.before.before.before.if5.false, ne_eqb _ _ c.before.before.if6.false, ne_eqb _ _ c.before.if7.false, eq-eqb _ _ c.if8.true)
 
 returns-9 : tie.Need-returns-9
-unfolding kindFrom
+unfolding kind_from
 returns-9 c = simp (ne_eqb _ _ c.before.before.before.before.before.before.before.before.if1.false, ne_eqb _ _ c.before.before.before.before.before.before.before.if2.false, ne_eqb _ _ c.before.before.before.before.before.before.if3.false, ne_eqb _ _ c.before.before.before.before.before.if4.false, ne_eqb _ _ c.before.before.before.before.if5.false, ne_eqb _ _ c.before.before.before.if6.false, ne_eqb _ _ c.before.before.if7.false, ne_eqb _ _ c.before.if8.false, eq-eqb _ _ c.if9.true)
 
 returns-10 : tie.Need-returns-10
-unfolding kindFrom
+unfolding kind_from
 returns-10 c = simp (ne_eqb _ _ c.before.before.before.before.before.before.before.before.before.if1.false, ne_eqb _ _ c.before.before.before.before.before.before.before.before.if2.false, ne_eqb _ _ c.before.before.before.before.before.before.before.if3.false, ne_eqb _ _ c.before.before.before.before.before.before.if4.false, ne_eqb _ _ c.before.before.before.before.before.if5.false, ne_eqb _ _ c.before.before.before.before.if6.false, ne_eqb _ _ c.before.before.before.if7.false, ne_eqb _ _ c.before.before.if8.false, ne_eqb _ _ c.before.if9.false, eq-eqb _ _ c.if10.true)
 
 returns-11 : tie.Need-returns-11
-unfolding kindFrom
+unfolding kind_from
 returns-11 c = simp (ne_eqb _ _ c.before.before.before.before.before.before.before.before.before.if1.false, ne_eqb _ _ c.before.before.before.before.before.before.before.before.if2.false, ne_eqb _ _ c.before.before.before.before.before.before.before.if3.false, ne_eqb _ _ c.before.before.before.before.before.before.if4.false, ne_eqb _ _ c.before.before.before.before.before.if5.false, ne_eqb _ _ c.before.before.before.before.if6.false, ne_eqb _ _ c.before.before.before.if7.false, ne_eqb _ _ c.before.before.if8.false, ne_eqb _ _ c.before.if9.false, ne_eqb _ _ c.if10.false)
 
 pub kind-from-spec : {M : Type 1} → statement M

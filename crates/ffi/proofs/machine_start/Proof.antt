@@ -1,6 +1,6 @@
 use mathlib.Core.Path.{sym, ◌∙◌}
 use Rattle.model.specs.reference.Rules.{rooted}
-use Rattle.ffi.proofs.Laws.{step_left, step-not, four, start_left, start-not}
+use Rattle.ffi.proofs.Laws.{step_left, step_not, four, start_left, start_not}
 use borrow.Author.Rules.{rules}
 use Rattle.ffi.proofs.machine_start.Statement.{statement}
 use Rattle.ffi.proofs.machine_start.Tie as tie
@@ -31,7 +31,7 @@ returns c = let n = c.before.before.before in let s = n.before.before.before.bef
 
 returns-2 : tie.Need-returns-2
 returns-2 c = let a = c.before.before.before.before.args in
-    start-not a.m.now a.t.now (rooted a.root) a.r.now c.if1.false
+    start_not a.m.now a.t.now (rooted a.root) a.r.now c.if1.false
 
 pub machine-start-spec : {M : Type 1} → statement M
 machine-start-spec =

@@ -1,5 +1,5 @@
 use mathlib.Core.Path.{sym, ◌∙◌}
-use Rattle.ffi.proofs.Laws.{step_left, step-not, four, start_left, start-not}
+use Rattle.ffi.proofs.Laws.{step_left, step_not, four, start_left, start_not}
 use borrow.Author.Rules.{rules}
 use Rattle.ffi.proofs.machine_step.Statement.{statement}
 use Rattle.ffi.proofs.machine_step.Tie as tie
@@ -49,7 +49,7 @@ same-length-4 c = search rules
 
 returns-2 : tie.Need-returns-2
 returns-2 c = let w = c.before in let a = w.before.before.before.before.before.before.args in
-    step-not a.o.now a.r.now a.m.now a.t.now (sym w.are_words.ensures ∙ c.if1.false)
+    step_not a.o.now a.r.now a.m.now a.t.now (sym w.are_words.ensures ∙ c.if1.false)
 
 pub machine-step-spec : {M : Type 1} → statement M
 machine-step-spec =

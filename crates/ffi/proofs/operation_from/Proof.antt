@@ -1,5 +1,5 @@
 use mathlib.Core.Path.{sym, ap, ◌∙◌}
-use Rattle.ffi.specs.Words.{kindFrom, operationFrom, registersFrom, registersInto, answerNumber, areWords}
+use Rattle.ffi.specs.Words.{kind_from, operation_from, registers_from, registers_into, answer_number, are_words}
 use borrow.Author.Rules.{rules}
 use Rattle.ffi.proofs.operation_from.Statement.{statement}
 use Rattle.ffi.proofs.operation_from.Tie as tie
@@ -24,9 +24,9 @@ word-requires-4 : tie.Need-word-requires-4
 word-requires-4 c κs = search rules
 
 returns : tie.Need-returns
-unfolding operationFrom
+unfolding operation_from
 returns c = let k = c.before.before.before in λ i. record {
-  kind = (k.kind-from.ensures ∙ ap kindFrom k.before.word.ensures) i;
+  kind = (k.kind-from.ensures ∙ ap kind_from k.before.word.ensures) i;
   a = c.before.before.word2.ensures i;
   b = c.before.word3.ensures i;
   c = c.word4.ensures i;

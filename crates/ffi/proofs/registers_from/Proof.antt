@@ -1,4 +1,4 @@
-use Rattle.ffi.specs.Words.{kindFrom, operationFrom, registersFrom, registersInto, answerNumber, areWords}
+use Rattle.ffi.specs.Words.{kind_from, operation_from, registers_from, registers_into, answer_number, are_words}
 use borrow.Author.Rules.{rules}
 use Rattle.ffi.proofs.registers_from.Statement.{statement}
 use Rattle.ffi.proofs.registers_from.Tie as tie
@@ -19,7 +19,7 @@ word-requires-4 : tie.Need-word-requires-4
 word-requires-4 c κs = search rules
 
 returns : tie.Need-returns
-unfolding registersFrom
+unfolding registers_from
 returns c = λ i. record { root = c.before.before.before.word.ensures i; context = c.before.before.word2.ensures i; mode = c.before.word3.ensures i; domains = c.word4.ensures i }
 
 pub registers-from-spec : {M : Type 1} → statement M

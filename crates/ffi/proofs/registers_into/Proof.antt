@@ -1,5 +1,5 @@
 use mathlib.Core.Path.{refl}
-use Rattle.ffi.specs.Words.{kindFrom, operationFrom, registersFrom, registersInto, answerNumber, areWords}
+use Rattle.ffi.specs.Words.{kind_from, operation_from, registers_from, registers_into, answer_number, are_words}
 use borrow.Author.Rules.{rules}
 use Rattle.ffi.proofs.registers_into.Statement.{statement}
 use Rattle.ffi.proofs.registers_into.Tie as tie
@@ -22,7 +22,7 @@ same_length : tie.Need-same-length
 same_length c = search rules
 
 returns : tie.Need-returns
-unfolding registersInto
+unfolding registers_into
 returns c = refl
 
 pub registers-into-spec : {M : Type 1} → statement M

@@ -2,8 +2,8 @@ use Prim.Native.Nat.{◌-◌, ◌≤◌, zero-le}
 use native.Mathlib.Omega.{arith}
 use mathlib.Core.Path.{◌≡◌, refl, sym, ap, ◌∙◌}
 use borrow.Author.Tests.{eq-eqb, ne_eqb}
-use Rattle.model.specs.step.Checks.{fieldsFit, domainsFit}
-use Rattle.limits.proofs.Laws.{one_field, no_field, all-1}
+use Rattle.model.specs.step.Checks.{fields_fit, domains_fit}
+use Rattle.limits.proofs.Laws.{one_field, no_field, all_1}
 use Rattle.limits.proofs.domains_fit.Statement.{statement}
 use Rattle.limits.proofs.domains_fit.Tie as tie
 use Rattle.limits.proofs.domains_fit.Reads as reads
@@ -11,17 +11,17 @@ use Rattle.limits.proofs.domains_fit.Lts as lts
 
 -- the fields from i on decide
 abbrev invariant-loop : tie.invariant-loop
-invariant-loop domains rest₀ i₀ rest i = (i ≤ 16) × (fieldsFit (16 - i) rest ≡ domainsFit domains)
+invariant-loop domains rest₀ i₀ rest i = (i ≤ 16) × (fields_fit (16 - i) rest ≡ domains_fit domains)
 
 abbrev decreases-loop : tie.decreases-loop
 decreases-loop domains rest₀ i₀ rest i = 16 - i
 
 loop-holds : tie.Need-loop-init invariant-loop decreases-loop
-unfolding domainsFit
+unfolding domains_fit
 loop-holds c = (zero-le, refl)
 
 returns : tie.Need-returns invariant-loop decreases-loop
-returns c = sym (ap domainsFit c.if1.true ∙ all-1)
+returns c = sym (ap domains_fit c.if1.true ∙ all_1)
 
 returns-2 : tie.Need-returns-2 invariant-loop decreases-loop
 returns-2 c = let l = c.before.before in

@@ -1,5 +1,5 @@
 use mathlib.Core.Path.{sym, ◌∙◌}
-use Rattle.model.specs.step.Checks.{lengthsFit}
+use Rattle.model.specs.step.Checks.{lengths_fit}
 use borrow.Author.Rules.{rules}
 use Rattle.limits.proofs.lengths_fit.Statement.{statement}
 use Rattle.limits.proofs.lengths_fit.Tie as tie
@@ -15,12 +15,12 @@ track-fits-requires : tie.Need-track-fits-requires
 track-fits-requires c κs = search rules
 
 returns : tie.Need-returns
-unfolding lengthsFit
+unfolding lengths_fit
 returns c = let t = c.before in
     simp (sym t.before.memory-fits.ensures ∙ t.if1.true) c.track-fits.ensures
 
 returns-2 : tie.Need-returns-2
-unfolding lengthsFit
+unfolding lengths_fit
 returns-2 c = simp (sym c.before.memory-fits.ensures ∙ c.if1.false)
 
 pub lengths-fit-spec : {M : Type 1} → statement M

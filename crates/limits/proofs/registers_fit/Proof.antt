@@ -1,6 +1,6 @@
 use mathlib.Core.Path.{sym, ◌∙◌}
 use borrow.Author.Tests.{lt-ltb, le-ltb, le-leb, lt-leb}
-use Rattle.model.specs.step.Checks.{registersFit}
+use Rattle.model.specs.step.Checks.{registers_fit}
 use borrow.Author.Rules.{rules}
 use Rattle.limits.proofs.registers_fit.Statement.{statement}
 use Rattle.limits.proofs.registers_fit.Tie as tie
@@ -19,22 +19,22 @@ domains-fit-requires : tie.Need-domains-fit-requires
 domains-fit-requires c κs = search rules
 
 returns : tie.Need-returns
-unfolding registersFit
+unfolding registers_fit
 returns c = let t3 = c.before in let t2 = t3.before.before in let t1 = t2.before in
     simp (sym t1.before.root-fits.ensures ∙ t1.if1.true, lt-ltb _ _ t2.if2.true, le-leb _ _ t3.if3.true) c.domains-fit.ensures
 
 returns-2 : tie.Need-returns-2
-unfolding registersFit
+unfolding registers_fit
 returns-2 c = let t2 = c.before.before in let t1 = t2.before in
     simp (sym t1.before.root-fits.ensures ∙ t1.if1.true, lt-ltb _ _ t2.if2.true, lt-leb _ _ c.if3.false)
 
 returns-3 : tie.Need-returns-3
-unfolding registersFit
+unfolding registers_fit
 returns-3 c = let t1 = c.before in
     simp (sym t1.before.root-fits.ensures ∙ t1.if1.true, le-ltb _ _ c.if2.false)
 
 returns-4 : tie.Need-returns-4
-unfolding registersFit
+unfolding registers_fit
 returns-4 c = simp (sym c.before.root-fits.ensures ∙ c.if1.false)
 
 pub registers-fit-spec : {M : Type 1} → statement M

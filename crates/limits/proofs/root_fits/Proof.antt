@@ -1,7 +1,7 @@
 use Prim.Native.Nat.{ℕ, ◌%◌}
 use mathlib.Core.Path.{ap}
 use lib.Dec.{eqb}
-use Rattle.model.specs.step.Checks.{rootFits}
+use Rattle.model.specs.step.Checks.{root_fits}
 use borrow.Author.Rules.{rules}
 use Rattle.limits.proofs.root_fits.Statement.{statement}
 use Rattle.limits.proofs.root_fits.Tie as tie
@@ -16,7 +16,7 @@ rem-result : tie.Need-nonzero-rem-result
 rem-result c = search rules
 
 returns : tie.Need-returns
-unfolding rootFits
+unfolding root_fits
 returns c = ap (λ (u : ℕ). eqb (c.before.args.root % u) 0) c.root-alignment.ensures.0
 
 pub root-fits-spec : {M : Type 1} → statement M

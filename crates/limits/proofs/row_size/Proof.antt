@@ -1,6 +1,6 @@
 use mathlib.Core.Path.{refl}
 use native.Mathlib.Omega.{arith}
-use Rattle.model.specs.Limits.{rowSize}
+use Rattle.model.specs.Limits.{row_size}
 use borrow.Author.Rules.{rules}
 use Rattle.limits.proofs.row_size.Statement.{statement}
 use Rattle.limits.proofs.row_size.Tie as tie
@@ -11,7 +11,7 @@ mul-result : tie.Need-overflow-mul-result
 mul-result c = search rules
 
 returns : tie.Need-returns
-unfolding rowSize
+unfolding row_size
 returns c = (refl, omega arith)
 
 pub row-size-spec : {M : Type 1} → statement M

@@ -5,7 +5,7 @@ use native.Mathlib.Omega.{arith}
 use lib.ListN.{length, set, replicate, length-set}
 use lib.Seq.{paste}
 use borrow.Author.Rules.{rules}
-use Rattle.line_reader.proofs.Laws.{cleared, all-cleared}
+use Rattle.line_reader.proofs.Laws.{cleared, all_cleared}
 use Rattle.line_reader.proofs.begin.Statement.{statement}
 use Rattle.line_reader.proofs.begin.Tie as tie
 use Rattle.line_reader.proofs.begin.Reads as reads
@@ -36,7 +36,7 @@ same_length : tie.Need-same-length invariant-loop decreases-loop
 same_length c = c.before.loop.invariant.1
 
 returns : tie.Need-returns invariant-loop decreases-loop
-returns c = let l = c.before.loop in (refl, l.invariant.2 ∙ all-cleared c.before.before.args.image.now l.i (omega arith) l.invariant.0)
+returns c = let l = c.before.loop in (refl, l.invariant.2 ∙ all_cleared c.before.before.args.image.now l.i (omega arith) l.invariant.0)
 
 pub begin-spec : {M : Type 1} → statement M
 begin-spec =

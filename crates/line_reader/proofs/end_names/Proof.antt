@@ -2,10 +2,10 @@ use Prim.Native.Nat.{ℕ}
 use mathlib.Core.Path.{ap, sym, ◌∙◌}
 use mathlib.Core.List.{List}
 use Rattle.text.specs.Split.{same}
-use Rattle.lines.specs.Form.{lineNames}
+use Rattle.lines.specs.Form.{line_names}
 use Rattle.line_reader.specs.declared.Reader.{Reader}
 use Rattle.line_reader.specs.Reading.{State}
-use Rattle.line_reader.proofs.Laws.{names-good, names-wrong}
+use Rattle.line_reader.proofs.Laws.{names_good, names_wrong}
 use borrow.Author.Rules.{rules}
 use Rattle.line_reader.proofs.end_names.Statement.{statement}
 use Rattle.line_reader.proofs.end_names.Tie as tie
@@ -31,7 +31,7 @@ accepted-requires c κs = search rules
 returns : tie.Need-returns
 returns c = λ m. let i = c.before in let s = i.before in let h = s.before.before in let a = h.before.before.args in
     ap {B = State} (λ (q : Reader). record { reader = q; line = a.line.now; image = m }) c.accepted.ensures
-    ∙ sym (names-good (record { reader = a.r; line = a.line.now; image = m }) (sym (ap (λ (x : List ℕ). same x lineNames) h.held.ensures) ∙ sym s.same.ensures ∙ i.if1.true))
+    ∙ sym (names_good (record { reader = a.r; line = a.line.now; image = m }) (sym (ap (λ (x : List ℕ). same x line_names) h.held.ensures) ∙ sym s.same.ensures ∙ i.if1.true))
 
 turned-requires : tie.Need-turned-requires
 turned-requires c κs = search rules
@@ -39,7 +39,7 @@ turned-requires c κs = search rules
 returns-2 : tie.Need-returns-2
 returns-2 c = λ m. let i = c.before in let s = i.before in let h = s.before.before in let a = h.before.before.args in
     ap {B = State} (λ (q : Reader). record { reader = q; line = a.line.now; image = m }) c.turned.ensures
-    ∙ sym (names-wrong (record { reader = a.r; line = a.line.now; image = m }) (sym (ap (λ (x : List ℕ). same x lineNames) h.held.ensures) ∙ sym s.same.ensures ∙ i.if1.false))
+    ∙ sym (names_wrong (record { reader = a.r; line = a.line.now; image = m }) (sym (ap (λ (x : List ℕ). same x line_names) h.held.ensures) ∙ sym s.same.ensures ∙ i.if1.false))
 
 pub end-names-spec : {M : Type 1} → statement M
 end-names-spec =

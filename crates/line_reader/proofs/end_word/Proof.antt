@@ -3,7 +3,7 @@ use mathlib.Core.Path.{ap, ap₂, sym, ◌∙◌}
 use mathlib.Core.List.{List}
 use Rattle.line_reader.specs.declared.Reader.{Reader}
 use Rattle.line_reader.specs.Reading.{State}
-use Rattle.line_reader.proofs.Laws.{word-falls, word-unaligned, word_good}
+use Rattle.line_reader.proofs.Laws.{word_falls, word_unaligned, word_good}
 use borrow.Author.Rules.{rules}
 use Rattle.line_reader.proofs.end_word.Statement.{statement}
 use Rattle.line_reader.proofs.end_word.Tie as tie
@@ -19,7 +19,7 @@ turned-requires c κs = search rules
 returns : tie.Need-returns
 returns c = λ d. let i = c.before in let a = i.before.before.before.args in
     ap {B = State} (λ (q : Reader). record { reader = q; line = d; image = a.image.now }) c.turned.ensures
-    ∙ sym (word-falls a.a a.w (record { reader = a.r; line = d; image = a.image.now }) i.if1.true)
+    ∙ sym (word_falls a.a a.w (record { reader = a.r; line = d; image = a.image.now }) i.if1.true)
 
 turned-requires-2 : tie.Need-turned-requires-2
 turned-requires-2 c κs = search rules
@@ -27,7 +27,7 @@ turned-requires-2 c κs = search rules
 returns-2 : tie.Need-returns-2
 returns-2 c = λ d. let j = c.before in let i = j.before in let a = i.before.before.before.args in
     ap {B = State} (λ (q : Reader). record { reader = q; line = d; image = a.image.now }) c.turned2.ensures
-    ∙ sym (word-unaligned a.a a.w (record { reader = a.r; line = d; image = a.image.now }) i.if1.false j.if2.true)
+    ∙ sym (word_unaligned a.a a.w (record { reader = a.r; line = d; image = a.image.now }) i.if1.false j.if2.true)
 
 store-requires : tie.Need-store-requires
 store-requires c κs = search rules

@@ -4,7 +4,7 @@ use native.Mathlib.Omega.{arith}
 use lib.ListN.{length, drop}
 use borrow.Author.Rules.{rules}
 use Rattle.line_reader.specs.Reading.{feed}
-use Rattle.line_reader.proofs.Laws.{feed-turn, feed-end}
+use Rattle.line_reader.proofs.Laws.{feed_turn, feed_end}
 use Rattle.line_reader.proofs.feed.Statement.{statement}
 use Rattle.line_reader.proofs.feed.Tie as tie
 use Rattle.line_reader.proofs.feed.Reads as reads
@@ -39,7 +39,7 @@ loop-again c =
     let k = c.before.before.before.before in
     let l = k.before.before.before.before.before in
     let p = l.before.before.before.before.args.part.now in
-    (l.loop.invariant.0 ∙ feed-turn p l.loop.i _ (omega arith) ∙ ap (feed (drop (l.loop.i + 1) p)) (sym k.step.ensures), search rules, search rules)
+    (l.loop.invariant.0 ∙ feed_turn p l.loop.i _ (omega arith) ∙ ap (feed (drop (l.loop.i + 1) p)) (sym k.step.ensures), search rules, search rules)
 
 same_length : tie.Need-same-length invariant-loop decreases-loop
 same_length c = c.before.loop.invariant.1
@@ -48,7 +48,7 @@ same-length-2 : tie.Need-same-length-2 invariant-loop decreases-loop
 same-length-2 c = c.before.loop.invariant.2
 
 returns : tie.Need-returns invariant-loop decreases-loop
-returns c = let l = c.before in let p = l.before.before.before.before.args.part.now in sym (l.loop.invariant.0 ∙ feed-end p l.loop.i _ (omega arith))
+returns c = let l = c.before in let p = l.before.before.before.before.args.part.now in sym (l.loop.invariant.0 ∙ feed_end p l.loop.i _ (omega arith))
 
 pub feed-spec : {M : Type 1} → statement M
 feed-spec =

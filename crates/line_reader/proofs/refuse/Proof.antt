@@ -1,8 +1,8 @@
 use mathlib.Core.Path.{ap, ◌∙◌}
 use native.Mathlib.Nat.{zero-add}
 use native.Mathlib.Omega.{arith}
-use Rattle.text.proofs.PutLaws.{wrote-fits}
-use Rattle.lines.specs.Form.{pairText}
+use Rattle.text.proofs.PutLaws.{wrote_fits}
+use Rattle.lines.specs.Form.{pair_text}
 use Rattle.line_reader.specs.declared.Told.TheVariants.{Output}
 use borrow.Author.Rules.{rules}
 use Rattle.line_reader.proofs.refuse.Statement.{statement}
@@ -19,7 +19,7 @@ same_length c = search rules
 
 returns : tie.Need-returns
 returns c = let k = c.before.before in let b = k.before.before.before in
-    let w = wrote-fits 18 b.args.image.now 0 (pairText b.args.line b.args.number) _ _ (omega (arith, b.requires)) k.put-pair.ensures in
+    let w = wrote_fits 18 b.args.image.now 0 (pair_text b.args.line b.args.number) _ _ (omega (arith, b.requires)) k.put-pair.ensures in
     (ap Output (w.0 ∙ zero-add _), w.1)
 
 pub refuse-spec : {M : Type 1} → statement M

@@ -1,5 +1,5 @@
 use mathlib.Core.Path.{sym, ◌∙◌}
-use Rattle.line_reader.proofs.Laws.{step-decided, step-taken}
+use Rattle.line_reader.proofs.Laws.{step_decided, step_taken}
 use borrow.Author.Rules.{rules}
 use Rattle.line_reader.proofs.step.Statement.{statement}
 use Rattle.line_reader.proofs.step.Tie as tie
@@ -13,7 +13,7 @@ is-decided-requires c κs = search rules
 
 returns : tie.Need-returns
 returns c = let d = c.before in let a = d.before.before.before.args in
-    sym (step-decided a.b (record { reader = a.r; line = a.line.now; image = a.image.now }) (sym d.is-decided.ensures ∙ c.if1.true))
+    sym (step_decided a.b (record { reader = a.r; line = a.line.now; image = a.image.now }) (sym d.is-decided.ensures ∙ c.if1.true))
 
 take-byte-requires : tie.Need-take-byte-requires
 take-byte-requires c κs = search rules
@@ -26,7 +26,7 @@ same-length-2 c = search rules
 
 returns-2 : tie.Need-returns-2
 returns-2 c = let t = c.before.before.before.before in let i = t.before.before.before in let d = i.before in let a = d.before.before.before.args in
-    t.take-byte.ensures ∙ sym (step-taken a.b (record { reader = a.r; line = a.line.now; image = a.image.now }) (sym d.is-decided.ensures ∙ i.if1.false))
+    t.take-byte.ensures ∙ sym (step_taken a.b (record { reader = a.r; line = a.line.now; image = a.image.now }) (sym d.is-decided.ensures ∙ i.if1.false))
 
 pub step_spec : {M : Type 1} → statement M
 step_spec =

@@ -1,5 +1,5 @@
 use mathlib.Core.Path.{sym, ◌∙◌}
-use Rattle.lines.specs.Ways.{lengthFits}
+use Rattle.lines.specs.Ways.{length_fits}
 use borrow.Author.Rules.{rules}
 use Rattle.line_writer.proofs.length_fits.Statement.{statement}
 use Rattle.line_writer.proofs.length_fits.Tie as tie
@@ -11,11 +11,11 @@ memory-fits-requires : tie.Need-memory-fits-requires
 memory-fits-requires c κs = search rules
 
 returns : tie.Need-returns
-unfolding lengthFits
+unfolding length_fits
 returns c = simp (sym c.before.memory-fits.ensures ∙ c.if1.true)
 
 returns-2 : tie.Need-returns-2
-unfolding lengthFits
+unfolding length_fits
 returns-2 c = simp (sym c.before.memory-fits.ensures ∙ c.if1.false)
 
 pub length-fits-spec : {M : Type 1} → statement M

@@ -2,9 +2,9 @@ use Prim.Native.Nat.{ℕ}
 use mathlib.Core.List.{List, [], ◌∷◌}
 use native.Mathlib.Omega.{arith}
 use Rattle.text.proofs.PutLaws.{put_first}
-use Rattle.lines.specs.Words.{wordsFrom}
-use Rattle.lines.specs.Ways.{linesText, text_of}
-use Rattle.line_writer.proofs.Laws.{text-behind}
+use Rattle.lines.specs.Words.{words_from}
+use Rattle.lines.specs.Ways.{lines_text, text_of}
+use Rattle.line_writer.proofs.Laws.{text_behind}
 use borrow.Author.Rules.{rules}
 use Rattle.line_writer.proofs.put_text.Statement.{statement}
 use Rattle.line_writer.proofs.put_text.Tie as tie
@@ -34,7 +34,7 @@ same_length c = search rules
 returns : tie.Need-returns
 unfolding text_of
 returns c = let t = c.before.before in let k = t.before.before.before.before in let b = k.before.before.before.before.before in
-    text-behind b.args.out.now nameLine (linesText (wordsFrom 0 b.args.image.now)) _ _ _ _ (omega (arith, b.requires.1)) k.put.ensures t.put-words.ensures
+    text_behind b.args.out.now nameLine (lines_text (words_from 0 b.args.image.now)) _ _ _ _ (omega (arith, b.requires.1)) k.put.ensures t.put-words.ensures
 
 pub put-text-spec : {M : Type 1} → statement M
 put-text-spec =

@@ -1,5 +1,5 @@
 use mathlib.Core.Path.{refl, sym, ◌∙◌}
-use Rattle.line_writer.specs.Call.{placeAfterWord, wroteWord}
+use Rattle.line_writer.specs.Call.{place_after_word, wrote_word}
 use borrow.Author.Rules.{rules}
 use Rattle.line_writer.proofs.put_word.Statement.{statement}
 use Rattle.line_writer.proofs.put_word.Tie as tie
@@ -18,12 +18,12 @@ same_length : tie.Need-same-length
 same_length c = search rules
 
 returns : tie.Need-returns
-unfolding placeAfterWord wroteWord
+unfolding place_after_word wrote_word
 returns c = let k = c.before.before in let i = k.before.before in
     rw (sym i.before.has-line.ensures ∙ i.if1.true) k.put-pair.ensures
 
 returns-2 : tie.Need-returns-2
-unfolding placeAfterWord wroteWord
+unfolding place_after_word wrote_word
 returns-2 c = rw (sym c.before.has-line.ensures ∙ c.if1.false) (refl, refl)
 
 pub put-word-spec : {M : Type 1} → statement M

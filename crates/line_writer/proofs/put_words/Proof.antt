@@ -3,8 +3,8 @@ use mathlib.Core.Path.{ap₂, ◌∙◌}
 use native.Mathlib.Omega.{arith}
 use lib.ListN.{length}
 use borrow.Author.Rules.{rules}
-use Rattle.line_writer.proofs.Laws.{Going, going_start, going-word, going_end, rest_part}
-use Rattle.line_writer.specs.Call.{placeAfterWord, wroteWord}
+use Rattle.line_writer.proofs.Laws.{Going, going_start, going_word, going_end, rest_part}
+use Rattle.line_writer.specs.Call.{place_after_word, wrote_word}
 use Rattle.line_writer.proofs.put_words.Statement.{statement}
 use Rattle.line_writer.proofs.put_words.Tie as tie
 use Rattle.line_writer.proofs.put_words.Reads as reads
@@ -82,8 +82,8 @@ loop-again c =
     let e = n.number.ensures in
     let r = rest_part m (i + 4) in
     let q = k.put_word.ensures in (
-      going-word m _ _ i l.loop.place l.loop.out l.loop.invariant.0 _ _ (omega arith)
-          (q.0 ∙ ap₂ (placeAfterWord l.loop.out l.loop.place i) e r, q.1 ∙ ap₂ (wroteWord l.loop.out l.loop.place i) e r),
+      going_word m _ _ i l.loop.place l.loop.out l.loop.invariant.0 _ _ (omega arith)
+          (q.0 ∙ ap₂ (place_after_word l.loop.out l.loop.place i) e r, q.1 ∙ ap₂ (wrote_word l.loop.out l.loop.place i) e r),
       l.loop.invariant.1,
     )
 

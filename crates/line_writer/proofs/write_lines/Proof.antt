@@ -6,11 +6,11 @@ use native.Mathlib.Omega.{arith}
 use native.Mathlib.Nat.{zero-add}
 use lib.Seq.{length-take-le}
 use borrow.Author.Tests.{not-true, not-false}
-use Rattle.text.specs.Put.{hasRoom}
-use Rattle.text.proofs.PutLaws.{wrote-fits}
-use Rattle.lines.specs.Form.{pairText}
-use Rattle.line_writer.specs.Call.{LinesCall, roomFor}
-use Rattle.line_writer.proofs.Laws.{called-wrong, called-short, output-text, output-refusal, gives-text, room_fits, room-refusal}
+use Rattle.text.specs.Put.{has_room}
+use Rattle.text.proofs.PutLaws.{wrote_fits}
+use Rattle.lines.specs.Form.{pair_text}
+use Rattle.line_writer.specs.Call.{LinesCall, room_for}
+use Rattle.line_writer.proofs.Laws.{called_wrong, called_short, output_text, output_refusal, gives_text, room_fits, room_refusal}
 use borrow.Author.Rules.{rules}
 use Rattle.line_writer.proofs.write_lines.Statement.{statement}
 use Rattle.line_writer.proofs.write_lines.Tie as tie
@@ -24,12 +24,12 @@ use Rattle.text.proofs.has_room.Reads as has-room-reads
 
 returns : tie.Need-returns
 returns c = let a = c.before.before.before.args in
-    let e = called-wrong a.limit a.image.now a.n a.out.now c.if1.true in
+    let e = called_wrong a.limit a.image.now a.n a.out.now c.if1.true in
     (sym (ap (λ (x : LinesCall). x.told) e), sym (ap (λ (x : LinesCall). x.out) e))
 
 -- what the test of the room says
-found : (limit n room : ℕ) (d : List ℕ) (t : Bool) → room ≡ roomFor limit n → t ≡ hasRoom room d 0 → hasRoom (roomFor limit n) d 0 ≡ t
-found limit n room d t e f = sym (f ∙ ap (λ (k : ℕ). hasRoom k d 0) e)
+found : (limit n room : ℕ) (d : List ℕ) (t : Bool) → room ≡ room_for limit n → t ≡ has_room room d 0 → has_room (room_for limit n) d 0 ≡ t
+found limit n room d t e f = sym (f ∙ ap (λ (k : ℕ). has_room k d 0) e)
 
 room-for-requires : tie.Need-room-for-requires
 room-for-requires c κs = search rules
@@ -43,7 +43,7 @@ same_length c = search rules
 returns-2 : tie.Need-returns-2
 returns-2 c = let h = c.before in let r = h.before in let i = r.before.before in let a = i.before.before.before.args in
     let k = found a.limit a.n _ a.out.now _ r.room_for.ensures h.has_room.ensures ∙ not-true _ c.if2.true in
-    let e = called-short a.limit a.image.now a.n a.out.now i.if1.false k in
+    let e = called_short a.limit a.image.now a.n a.out.now i.if1.false k in
     (sym (ap (λ (x : LinesCall). x.told) e), sym (ap (λ (x : LinesCall). x.out) e))
 
 length-fits-requires : tie.Need-length-fits-requires
@@ -69,7 +69,7 @@ returns-3 c =
     let t = c.before.before in let f = t.before.before.before in let l = f.before in let j = l.before in let h = j.before in let r = h.before in let i = r.before.before in let a = i.before.before.before.args in
     let k = found a.limit a.n _ a.out.now _ r.room_for.ensures h.has_room.ensures ∙ not-false _ j.if2.false in
     let y = sym l.length-fits.ensures ∙ f.if3.true in
-    gives-text a.limit a.image.now a.n a.out.now i.if1.false _ _ _ k (output-text a.limit a.image.now a.n a.out.now i.if1.false y) t.put-text.ensures
+    gives_text a.limit a.image.now a.n a.out.now i.if1.false _ _ _ k (output_text a.limit a.image.now a.n a.out.now i.if1.false y) t.put-text.ensures
 
 put-pair-requires : tie.Need-put-pair-requires
 put-pair-requires c κs = search rules
@@ -82,8 +82,8 @@ returns-4 c =
     let t = c.before.before in let f = t.before.before in let l = f.before in let j = l.before in let h = j.before in let r = h.before in let i = r.before.before in let a = i.before.before.before.args in
     let k = found a.limit a.n _ a.out.now _ r.room_for.ensures h.has_room.ensures ∙ not-false _ j.if2.false in
     let y = sym l.length-fits.ensures ∙ f.if3.false in
-    let w = wrote-fits 18 a.out.now 0 (pairText 0 19) _ _ (room-refusal a.limit a.n a.out.now y k) t.put-pair.ensures in
-    gives-text a.limit a.image.now a.n a.out.now i.if1.false _ _ _ k (output-refusal a.limit a.image.now a.n a.out.now i.if1.false y) (w.0 ∙ zero-add _, w.1)
+    let w = wrote_fits 18 a.out.now 0 (pair_text 0 19) _ _ (room_refusal a.limit a.n a.out.now y k) t.put-pair.ensures in
+    gives_text a.limit a.image.now a.n a.out.now i.if1.false _ _ _ k (output_refusal a.limit a.image.now a.n a.out.now i.if1.false y) (w.0 ∙ zero-add _, w.1)
 
 pub write-lines-spec : {M : Type 1} → statement M
 write-lines-spec =

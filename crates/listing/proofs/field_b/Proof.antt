@@ -4,14 +4,14 @@ use mathlib.Core.List.{List}
 use Prim.Native.Nat.{ℕ}
 use native.Mathlib.Omega.{arith}
 use lib.Seq.{length-take-le}
-use Rattle.text.proofs.SplitLaws.{until-length, found-has, found_none, found_before, past-part}
+use Rattle.text.proofs.SplitLaws.{until_length, found_has, found_none, found_before, past_part}
 use Rattle.text.specs.Split.{until, past}
 use Rattle.listing.specs.declared.Reason.TheVariants.{Shape}
 use Rattle.listing.specs.declared.Line.TheVariants.{Refused}
 use Rattle.names.specs.Names.{comma}
 use Rattle.text.specs.declared.Value.{Value}
 use Rattle.text.specs.Hex.{value_of}
-use Rattle.listing.specs.Line.{fieldC, fieldB}
+use Rattle.listing.specs.Line.{field_c, field_b}
 use borrow.Author.Rules.{rules}
 use Rattle.listing.proofs.field_b.Statement.{statement}
 use Rattle.listing.proofs.field_b.Tie as tie
@@ -26,7 +26,7 @@ find-requires c κs = search rules
 
 slice-aggregate-read-value : tie.Need-slice-aggregate-read-value
 slice-aggregate-read-value c = let f = c.before.before in let a = f.before.before.args in
-    sym (length-take-le f.find.result a.l.now (omega (arith, until-length comma a.l.now)))
+    sym (length-take-le f.find.result a.l.now (omega (arith, until_length comma a.l.now)))
 
 read-value-requires : tie.Need-read-value-requires
 read-value-requires c κs = search rules
@@ -47,7 +47,7 @@ field-c-requires : tie.Need-field-c-requires
 field-c-requires c κs = search rules
 
 returns : tie.Need-returns
-unfolding fieldB
+unfolding field_b
 returns c =
     let v = c.before.before in
     let f = v.before.before.before in
@@ -55,11 +55,11 @@ returns c =
     let l = a.l.now in
     let e = f.find.ensures in
     c.field-c.ensures
-    ∙ ap₂ (λ (x : Value) (s : List ℕ). fieldC a.n a.a x s) (v.read-value.ensures ∙ ap value_of (found_before comma l _ e)) (past-part comma l _ e)
-    ∙ sym (ap (λ (b : Bool). cond b (fieldC a.n a.a (value_of (until comma l)) (past comma l)) (Refused Shape)) (found-has comma l _ e v.before.before.if1.true))
+    ∙ ap₂ (λ (x : Value) (s : List ℕ). field_c a.n a.a x s) (v.read-value.ensures ∙ ap value_of (found_before comma l _ e)) (past_part comma l _ e)
+    ∙ sym (ap (λ (b : Bool). cond b (field_c a.n a.a (value_of (until comma l)) (past comma l)) (Refused Shape)) (found_has comma l _ e v.before.before.if1.true))
 
 returns-2 : tie.Need-returns-2
-unfolding fieldB
+unfolding field_b
 returns-2 c =
     let f = c.before in
     let l = f.before.before.args.l.now in

@@ -2,7 +2,7 @@ use mathlib.Core.Path.{◌≡◌, sym, ◌∙◌}
 use mathlib.Core.Bool.{true, false}
 use Rattle.text.specs.Split.{has}
 use Rattle.names.specs.Names.{comma}
-use Rattle.listing.specs.Line.{fieldC}
+use Rattle.listing.specs.Line.{field_c}
 use borrow.Author.Rules.{rules}
 use Rattle.listing.proofs.field_c.Statement.{statement}
 use Rattle.listing.proofs.field_c.Tie as tie
@@ -17,7 +17,7 @@ has-requires : tie.Need-has-requires
 has-requires c κs = search rules
 
 returns : tie.Need-returns
-unfolding fieldC
+unfolding field_c
 returns c =
     let h : has comma c.before.before.before.args.l.now ≡ true = sym c.before.has.ensures ∙ c.if1.true in
     rw h
@@ -32,7 +32,7 @@ judge-requires : tie.Need-judge-requires
 judge-requires c κs = search rules
 
 returns-2 : tie.Need-returns-2
-unfolding fieldC
+unfolding field_c
 returns-2 c =
     let h : has comma c.before.before.before.before.before.before.args.l.now ≡ false = sym c.before.before.before.before.has.ensures ∙ c.before.before.before.if1.false in
     rw h cc

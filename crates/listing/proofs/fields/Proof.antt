@@ -4,13 +4,13 @@ use mathlib.Core.List.{List}
 use Prim.Native.Nat.{ℕ}
 use native.Mathlib.Omega.{arith}
 use lib.Seq.{length-take-le}
-use Rattle.text.proofs.SplitLaws.{until-length, found-has, found_none, found_before, past-part}
+use Rattle.text.proofs.SplitLaws.{until_length, found_has, found_none, found_before, past_part}
 use Rattle.text.specs.Split.{until, past}
 use Rattle.listing.specs.declared.Reason.TheVariants.{Shape}
 use Rattle.listing.specs.declared.Line.TheVariants.{Refused}
 use Rattle.names.specs.declared.Named.{Named}
 use Rattle.names.specs.Names.{comma, named_of}
-use Rattle.listing.specs.Line.{fieldA, fields_of}
+use Rattle.listing.specs.Line.{field_a, fields_of}
 use borrow.Author.Rules.{rules}
 use Rattle.listing.proofs.fields.Statement.{statement}
 use Rattle.listing.proofs.fields.Tie as tie
@@ -25,7 +25,7 @@ find-requires c κs = search rules
 
 slice-aggregate-name-of : tie.Need-slice-aggregate-name-of
 slice-aggregate-name-of c = let f = c.before.before in let a = f.before.before.args in
-    sym (length-take-le f.find.result a.l.now (omega (arith, until-length comma a.l.now)))
+    sym (length-take-le f.find.result a.l.now (omega (arith, until_length comma a.l.now)))
 
 name-of-requires : tie.Need-name-of-requires
 name-of-requires c κs = search rules
@@ -54,8 +54,8 @@ returns c =
     let l = a.l.now in
     let e = f.find.ensures in
     c.field-a.ensures
-    ∙ ap₂ (λ (x : Named) (s : List ℕ). fieldA x s) (v.name_of.ensures ∙ ap named_of (found_before comma l _ e)) (past-part comma l _ e)
-    ∙ sym (ap (λ (b : Bool). cond b (fieldA (named_of (until comma l)) (past comma l)) (Refused Shape)) (found-has comma l _ e v.before.before.if1.true))
+    ∙ ap₂ (λ (x : Named) (s : List ℕ). field_a x s) (v.name_of.ensures ∙ ap named_of (found_before comma l _ e)) (past_part comma l _ e)
+    ∙ sym (ap (λ (b : Bool). cond b (field_a (named_of (until comma l)) (past comma l)) (Refused Shape)) (found_has comma l _ e v.before.before.if1.true))
 
 returns-2 : tie.Need-returns-2
 unfolding fields_of

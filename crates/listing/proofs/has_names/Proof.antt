@@ -1,5 +1,5 @@
 use mathlib.Core.Path.{sym, ◌∙◌}
-use Rattle.listing.specs.Whole.{hasNames}
+use Rattle.listing.specs.Whole.{has_names}
 use borrow.Author.Rules.{rules}
 use Rattle.listing.proofs.has_names.Statement.{statement}
 use Rattle.listing.proofs.has_names.Tie as tie
@@ -22,12 +22,12 @@ same-requires : tie.Need-same-requires
 same-requires c κs = search rules
 
 returns : tie.Need-returns
-unfolding hasNames
+unfolding has_names
 returns c = let u = c.before.before in let i = u.before in let h = i.before in
     rw (sym h.has.ensures ∙ i.if1.true, sym u.until.ensures) c.same.ensures
 
 returns-2 : tie.Need-returns-2
-unfolding hasNames
+unfolding has_names
 returns-2 c = rw (sym c.before.has.ensures ∙ c.if1.false)
 
 pub has-names-spec : {M : Type 1} → statement M

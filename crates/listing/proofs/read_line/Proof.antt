@@ -3,7 +3,7 @@ use native.Mathlib.Omega.{arith}
 use lib.Seq.{length-take-le}
 use mathlib.Core.Path.{◌≡◌, sym, ap, ◌∙◌}
 use Rattle.text.specs.Split.{has, until}
-use Rattle.text.proofs.SplitLaws.{until-length, found-has, found_none, found_before}
+use Rattle.text.proofs.SplitLaws.{until_length, found_has, found_none, found_before}
 use Rattle.names.specs.Names.{newline}
 use Rattle.listing.specs.declared.Reason.TheVariants.{Shape}
 use Rattle.listing.specs.declared.Line.TheVariants.{Refused}
@@ -22,7 +22,7 @@ find-requires c κs = search rules
 
 slice-aggregate-fields : tie.Need-slice-aggregate-fields
 slice-aggregate-fields c = let f = c.before.before in let a = f.before.before.args in
-    sym (length-take-le f.find.result a.list.now (omega (arith, until-length newline a.list.now)))
+    sym (length-take-le f.find.result a.list.now (omega (arith, until_length newline a.list.now)))
 
 fields-requires : tie.Need-fields-requires
 fields-requires c κs = search rules
@@ -36,7 +36,7 @@ returns c =
     with_number l
     (c.fields.ensures
     ∙ ap fields_of (found_before newline l _ e)
-    ∙ sym (ap (λ (b : Bool). cond b (fields_of (until newline l)) (Refused Shape)) (found-has newline l _ e c.before.before.if1.true)))
+    ∙ sym (ap (λ (b : Bool). cond b (fields_of (until newline l)) (Refused Shape)) (found_has newline l _ e c.before.before.if1.true)))
 
 returns-2 : tie.Need-returns-2
 unfolding line_of

@@ -1,12 +1,12 @@
 use mathlib.Core.Path.{refl}
-use Rattle.listing.specs.Whole.{tooLong}
+use Rattle.listing.specs.Whole.{too_long}
 use Rattle.listing.proofs.too_long.Statement.{statement}
 use Rattle.listing.proofs.too_long.Tie as tie
 use Rattle.listing.proofs.too_long.Reads as reads
 use Rattle.listing.proofs.too_long.Lts as lts
 
 returns : tie.Need-returns
-unfolding tooLong
+unfolding too_long
 returns c = refl
 
 pub too-long-spec : {M : Type 1} → statement M

@@ -1,6 +1,6 @@
 use mathlib.Core.Path.{sym, ap, ◌∙◌}
 use Rattle.transfer.proofs.Laws.{regive}
-use Rattle.model.specs.step.Machine.{carried, read_step, writeStep, fetchStep, operate}
+use Rattle.model.specs.step.Machine.{carried, read_step, write_step, fetch_step, operate}
 use Rattle.model.specs.declared.Size.{Size}
 use Rattle.model.specs.declared.Kind.{Kind}
 use Rattle.model.specs.declared.Registers.{Registers}
@@ -155,7 +155,7 @@ same-length-4 c = search rules
 returns-2 : tie.Need-returns-2
 unfolding operate
 returns-2 c = let k = c.before.before.before.before in let z = k.before.before.before in let e = z.before in let a = e.before.before.before.before.args in
-    regive _ _ _ _ _ (ap (λ (s : Size). writeStep a.o.a s a.o.c a.r a.m.now a.t.now) z.size-of2.ensures.same ∙ sym (ap (λ (w : Kind). operate w a.o a.r a.m.now a.t.now) e.enum-told2.given.1)) k.write.ensures
+    regive _ _ _ _ _ (ap (λ (s : Size). write_step a.o.a s a.o.c a.r a.m.now a.t.now) z.size-of2.ensures.same ∙ sym (ap (λ (w : Kind). operate w a.o a.r a.m.now a.t.now) e.enum-told2.given.1)) k.write.ensures
 
 same-length-5 : tie.Need-same-length-5
 same-length-5 c = search rules

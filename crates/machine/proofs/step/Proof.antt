@@ -1,6 +1,6 @@
 use mathlib.Core.Path.{sym, ap, ap₂, ◌∙◌, refl}
 use Rattle.transfer.proofs.Laws.{regive, turned}
-use Rattle.model.specs.step.Machine.{After, carried, readFrom, writeTo, read_step, writeStep, operate, afterChecks, stepped, started, startedBy}
+use Rattle.model.specs.step.Machine.{After, carried, read_from, write_to, read_step, write_step, operate, after_checks, stepped, started, started_by}
 use Rattle.model.specs.declared.Access.{Access}
 use Rattle.model.specs.declared.Size.{Size}
 use Rattle.model.specs.declared.Kind.{Kind}
@@ -31,7 +31,7 @@ carry-out-requires c κs = search rules
 returns : tie.Need-returns
 unfolding stepped
 returns c = let n = c.before in let h = n.before.before in let a = h.before.before.before.args in
-    turned _ _ _ _ _ (sym (ap (λ (z : Check). afterChecks z a.o a.r a.m.now a.t.now) (sym h.check.ensures.check ∙ n.n.given.1)))
+    turned _ _ _ _ _ (sym (ap (λ (z : Check). after_checks z a.o a.r a.m.now a.t.now) (sym h.check.ensures.check ∙ n.n.given.1)))
 
 same_length : tie.Need-same-length
 same_length c = search rules
@@ -42,7 +42,7 @@ same-length-2 c = search rules
 returns-2 : tie.Need-returns-2
 unfolding stepped
 returns-2 c = let k = c.before.before.before.before in let e = k.before.before.before in let h = e.before.before in let a = h.before.before.before.args in
-    regive _ _ _ _ _ (sym (ap (λ (z : Check). afterChecks z a.o a.r a.m.now a.t.now) (sym h.check.ensures.check ∙ e.enum_told.given.1))) k.carry-out.ensures
+    regive _ _ _ _ _ (sym (ap (λ (z : Check). after_checks z a.o a.r a.m.now a.t.now) (sym h.check.ensures.check ∙ e.enum_told.given.1))) k.carry-out.ensures
 
 pub step_spec : {M : Type 1} → statement M
 step_spec =

@@ -1,4 +1,4 @@
-use Rattle.memory.proofs.Laws.{fits, loaded, not-loaded}
+use Rattle.memory.proofs.Laws.{fits, loaded, not_loaded}
 use Rattle.model.specs.declared.Size.TheVariants.{One, Two, Four}
 use borrow.Author.Rules.{rules}
 use Rattle.memory.proofs.load.Statement.{statement}
@@ -48,7 +48,7 @@ returns-3 c = let at-inside = c.before.before.before.before in let a = at-inside
 
 returns-4 : tie.Need-returns-4
 returns-4 c = let a = c.before.before.before.args in
-    not-loaded a.m.now a.at a.size _ c.before.inside.ensures c.if1.false
+    not_loaded a.m.now a.at a.size _ c.before.inside.ensures c.if1.false
 
 pub load_spec : {M : Type 1} → statement M
 load_spec =

@@ -1,4 +1,4 @@
-use Rattle.memory.proofs.Laws.{fits, stored, not-stored}
+use Rattle.memory.proofs.Laws.{fits, stored, not_stored}
 use mathlib.Core.Path.{sym, ◌∙◌}
 use Rattle.model.specs.declared.Size.TheVariants.{One, Two, Four}
 use borrow.Author.Rules.{rules}
@@ -68,7 +68,7 @@ same-length-4 c = search rules
 returns-4 : tie.Need-returns-4
 returns-4 c = let a = c.before.before.before.before.args in (
   sym c.if1.false ∙ c.before.inside.ensures,
-  not-stored a.m.now a.at a.size _ c.before.inside.ensures c.if1.false a.v,
+  not_stored a.m.now a.at a.size _ c.before.inside.ensures c.if1.false a.v,
 )
 
 pub store_spec : {M : Type 1} → statement M

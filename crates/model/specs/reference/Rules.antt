@@ -3,8 +3,8 @@
 use Rattle.std.specs.Prelude.{ℕ, zero, suc, ◌+◌, ◌*◌, ◌-◌, ◌/◌, ◌%◌, ◌^◌, ◌≡◌, ◌⊎◌, Bool, true, false, cond, not, ◌&&◌, ◌||◌, eqb, leb, ltb, length, get_or, set}
 use mathlib.Core.List.{List, [], ◌∷◌, map, foldl}
 use Rattle.std.proofs.Math.Option.{Option, none, some}
-use Rattle.model.specs.Limits.{pageSize, sectionSize, oldSplit, oldWindow, addressLimit, rowSize, rootAlignment, memoryUnit, memoryMost, contextsMost}
-use Rattle.model.specs.Numbers.{Result, ok, fault, kindNumber}
+use Rattle.model.specs.Limits.{page_size, section_size, old_split, old_window, address_limit, row_size, root_alignment, memory_unit, memory_most, contexts_most}
+use Rattle.model.specs.Numbers.{Result, ok, fault, kind_number}
 use Rattle.model.specs.Types.{Registers, Setting, Operation, Kind, Read, Write, Root, Asid, Mode, All, Addr, Ctx, AddrCtx, Fetch, Domain, Entry, Purpose, ToRead, ToWrite, ToFetch, Ruling, Allowed, PermissionDenied, DomainDenied}
 
 -- ── Reading a map ──
@@ -31,65 +31,65 @@ unfoldable pub descriptor : List ℕ → ℕ → ℕ → (ℕ → Translation) �
 descriptor m at n f = cond (in_memory m at 4) (f (value m at 4)) (failed n)
 
 -- An entry with the nG bit clear is global: 1, else 0.
-unfoldable pub globalBy : ℕ → ℕ
-globalBy nG = cond (eqb nG 0) 1 0
+unfoldable pub global_by : ℕ → ℕ
+global_by nG = cond (eqb nG 0) 1 0
 
 -- The domain of a level-one word, bits 8..5: that of a section, and of the pages of the table that it points to.
-unfoldable pub domainOf : ℕ → ℕ
-domainOf w = bits 8 5 w
+unfoldable pub domain_of : ℕ → ℕ
+domain_of w = bits 8 5 w
 
 -- Section: base bits 31..20, AP[2] bit 15, AP[1:0] bits 11..10, nG bit 17, XN bit 4; the missing frame bits come from the address.
 -- An entry records whether it came from a section: 1 here, 0 for pages.
 unfoldable pub section : ℕ → ℕ → Entry
 section a w = record {
-  frame = bits 31 20 w * 256 + a / pageSize % 256;
+  frame = bits 31 20 w * 256 + a / page_size % 256;
   ap = bits 15 15 w * 4 + bits 11 10 w;
   section = 1;
-  global = globalBy (bits 17 17 w);
+  global = global_by (bits 17 17 w);
   xn = bits 4 4 w;
-  domain = domainOf w;
+  domain = domain_of w;
 }
 
 -- Large page: base bits 31..16, XN bit 15. Small page: base bits 31..12, XN bit 0. For both, AP[2] is bit 9, AP[1:0] bits 5..4 and nG
 -- bit 11; the domain d is that of the level-one word.
-unfoldable pub largePage : ℕ → ℕ → ℕ → Entry
-largePage a d w = record {
-  frame = bits 31 16 w * 16 + a / pageSize % 16;
+unfoldable pub large_page : ℕ → ℕ → ℕ → Entry
+large_page a d w = record {
+  frame = bits 31 16 w * 16 + a / page_size % 16;
   ap = bits 9 9 w * 4 + bits 5 4 w;
   section = 0;
-  global = globalBy (bits 11 11 w);
+  global = global_by (bits 11 11 w);
   xn = bits 15 15 w;
   domain = d;
 }
 
-unfoldable pub smallPage : ℕ → ℕ → Entry
-smallPage d w = record {
+unfoldable pub small_page : ℕ → ℕ → Entry
+small_page d w = record {
   frame = bits 31 12 w;
   ap = bits 9 9 w * 4 + bits 5 4 w;
   section = 0;
-  global = globalBy (bits 11 11 w);
+  global = global_by (bits 11 11 w);
   xn = bits 0 0 w;
   domain = d;
 }
 
 -- Level two. Low two bits 0: no mapping, fault 7. 1: large page. 2 or 3: small page.
-unfoldable pub pageWord : ℕ → ℕ → ℕ → Translation
-pageWord a d w = cond (eqb (bits 1 0 w) 0) (failed 0x7) (cond (eqb (bits 1 0 w) 1) (found (largePage a d w)) (found (smallPage d w)))
+unfoldable pub page_word : ℕ → ℕ → ℕ → Translation
+page_word a d w = cond (eqb (bits 1 0 w) 0) (failed 0x7) (cond (eqb (bits 1 0 w) 1) (found (large_page a d w)) (found (small_page d w)))
 
 -- Level one. Low two bits 0 or 3: no mapping, fault 5. 1: table at bits 31..10, and the level-two word at table base + 4 ×
 -- (address / 4,096 % 256); fault 0xe where that word is not in memory. 2 with bit 18 clear: section; set: no mapping.
-unfoldable pub tableWord : List ℕ → ℕ → ℕ → Translation
-tableWord m a w =
-    cond (eqb (bits 1 0 w) 1) (descriptor m (bits 31 10 w * 1024 + 4 * (a / pageSize % 256)) 0xe (pageWord a (domainOf w)))
+unfoldable pub table_word : List ℕ → ℕ → ℕ → Translation
+table_word m a w =
+    cond (eqb (bits 1 0 w) 1) (descriptor m (bits 31 10 w * 1024 + 4 * (a / page_size % 256)) 0xe (page_word a (domain_of w)))
     (cond (eqb (bits 1 0 w) 2 && eqb (bits 18 18 w) 0) (found (section a w)) (failed 0x5))
 
 -- the walk of an address, in memory m from this root; fault 0xc where the level-one word is not in memory
 unfoldable pub walk : List ℕ → ℕ → ℕ → Translation
-walk m root a = descriptor m (root + 4 * (a / sectionSize)) 0xc (tableWord m a)
+walk m root a = descriptor m (root + 4 * (a / section_size)) 0xc (table_word m a)
 
 -- The physical address is frame × 4,096 + address % 4,096.
 unfoldable pub physical : Entry → ℕ → ℕ
-physical e a = e.frame * pageSize + a % pageSize
+physical e a = e.frame * page_size + a % page_size
 
 pub data Right : Type 0 where
   nothing reading writing : Right
@@ -101,8 +101,8 @@ rights =
     ∷ (nothing, nothing) ∷ (reading, nothing) ∷ (reading, reading) ∷ (reading, reading) ∷ []
 
 -- the right that an AP gives in a mode, 0 kernel or 1 user
-unfoldable pub rightOf : ℕ → ℕ → Right
-rightOf ap mode = cond (eqb mode 0) (get_or rights ap (nothing, nothing)).0 (get_or rights ap (nothing, nothing)).1
+unfoldable pub right_of : ℕ → ℕ → Right
+right_of ap mode = cond (eqb mode 0) (get_or rights ap (nothing, nothing)).0 (get_or rights ap (nothing, nothing)).1
 
 -- whether a right is one to read, and one to write
 unfoldable pub may_read : Right → Bool
@@ -129,21 +129,21 @@ field_of domains d = bits (2 * d + 1) (2 * d) domains
 -- applies permissions and XN; 3 skips both. 2, which no register of an accepted operation has, answers as 0.
 unfoldable pub ruling : ℕ → ℕ → Purpose → ℕ → ℕ → Ruling
 ruling ap mode x field xn =
-    cond (eqb field 1) (cond (permits x (rightOf ap mode) xn) Allowed PermissionDenied) (cond (eqb field 3) Allowed DomainDenied)
+    cond (eqb field 1) (cond (permits x (right_of ap mode) xn) Allowed PermissionDenied) (cond (eqb field 3) Allowed DomainDenied)
 
 -- ── The operations, and the plain machine: no TLB and no track ──
 -- whether an operation's kind is one of these
 unfoldable pub among : Kind → List Kind → Bool
 among k [] = false
-among k (x ∷ xs) = eqb (kindNumber k) (kindNumber x) || among k xs
+among k (x ∷ xs) = eqb (kind_number k) (kind_number x) || among k xs
 
 -- the operations that are accesses
 abbrev pub accesses : List Kind
 accesses = Read ∷ Write ∷ Fetch ∷ []
 
 -- A read or a write takes as many bytes as its field b says, a fetch four.
-unfoldable pub accessSize : Operation → ℕ
-accessSize o = cond (among o.kind (Fetch ∷ [])) 4 o.b
+unfoldable pub access_size : Operation → ℕ
+access_size o = cond (among o.kind (Fetch ∷ [])) 4 o.b
 
 -- The plain machine holds memory and the registers.
 pub record State : Type 0 where
@@ -173,17 +173,17 @@ touched ToWrite at size v s = (ok 0, record { memory = stored s.memory at size v
 touched ToFetch at size v s = (ok (value s.memory at size), s)
 
 -- permission, by the entry used: fault 0xd where it came from a section, 0xf where it came from a page
-unfoldable pub permissionFault : Entry → ℕ
-permissionFault e = cond (eqb e.section 1) 0xd 0xf
+unfoldable pub permission_fault : Entry → ℕ
+permission_fault e = cond (eqb e.section 1) 0xd 0xf
 
 -- a closed domain, by the entry used: fault 9 where it came from a section, 0xb where it came from a page
-unfoldable pub domainFault : Entry → ℕ
-domainFault e = cond (eqb e.section 1) 0x9 0xb
+unfoldable pub domain_fault : Entry → ℕ
+domain_fault e = cond (eqb e.section 1) 0x9 0xb
 
 -- An access through an entry: domain or permission; fault 8, bytes not in memory; the bytes.
 unfoldable pub ruled : Ruling → Purpose → ℕ → ℕ → ℕ → State → Entry → Result × State
-ruled DomainDenied x a size v s e = (fault (domainFault e), s)
-ruled PermissionDenied x a size v s e = (fault (permissionFault e), s)
+ruled DomainDenied x a size v s e = (fault (domain_fault e), s)
+ruled PermissionDenied x a size v s e = (fault (permission_fault e), s)
 ruled Allowed x a size v s e = cond (in_memory s.memory (physical e a) size) (touched x (physical e a) size v s) (fault 0x8, s)
 
 -- An address with its translation: a fault of the walk, else the entry, with the mode and the domain register of now.
@@ -194,37 +194,37 @@ translated x a size v s (found e) =
 
 -- A read, a write or a fetch: fault 1, address not a multiple of the size; else the address is translated.
 unfoldable pub access : Purpose → Operation → State → (ℕ → Translation) → Result × State
-access x o s f = cond (aligned o.a (accessSize o)) (translated x o.a (accessSize o) o.c s (f o.a)) (fault 0x1, s)
+access x o s f = cond (aligned o.a (access_size o)) (translated x o.a (access_size o) o.c s (f o.a)) (fault 0x1, s)
 
-unfoldable pub setRegisters : State → ℕ → ℕ → ℕ → ℕ → Result × State
-setRegisters s root context mode domains =
+unfoldable pub set_registers : State → ℕ → ℕ → ℕ → ℕ → Result × State
+set_registers s root context mode domains =
     (ok 0, record { memory = s.memory; registers = record { root = root; context = context; mode = mode; domains = domains } })
 
 -- An operation carried out, where f translates addresses. A flush changes neither memory nor registers.
 unfoldable pub effect : Kind → Operation → State → (ℕ → Translation) → Result × State
 effect Read o s f = access ToRead o s f
 effect Write o s f = access ToWrite o s f
-effect Root o s f = setRegisters s o.a s.registers.context s.registers.mode s.registers.domains
-effect Asid o s f = setRegisters s s.registers.root o.a s.registers.mode s.registers.domains
-effect Mode o s f = setRegisters s s.registers.root s.registers.context o.a s.registers.domains
+effect Root o s f = set_registers s o.a s.registers.context s.registers.mode s.registers.domains
+effect Asid o s f = set_registers s s.registers.root o.a s.registers.mode s.registers.domains
+effect Mode o s f = set_registers s s.registers.root s.registers.context o.a s.registers.domains
 effect All o s f = (ok 0, s)
 effect Addr o s f = (ok 0, s)
 effect Ctx o s f = (ok 0, s)
 effect AddrCtx o s f = (ok 0, s)
 effect Fetch o s f = access ToFetch o s f
-effect Domain o s f = setRegisters s s.registers.root s.registers.context s.registers.mode o.a
+effect Domain o s f = set_registers s s.registers.root s.registers.context s.registers.mode o.a
 
 -- the present outcome of an address: what the walk of memory gives now
 unfoldable pub outcome : State → ℕ → Translation
 outcome s a = walk s.memory s.registers.root a
 
 -- The plain machine translates by its tables.
-unfoldable pub carriedOut : Operation → State → Result × State
-carriedOut o s = effect o.kind o s (outcome s)
+unfoldable pub carried_out : Operation → State → Result × State
+carried_out o s = effect o.kind o s (outcome s)
 
 -- One operation, told whether it was refused. A refused operation changes nothing and gives no answer.
-unfoldable pub plainStep : Operation → Bool → State → Option Result × State
-plainStep o is_refused s = cond is_refused (none, s) (some (carriedOut o s).0, (carriedOut o s).1)
+unfoldable pub plain_step : Operation → Bool → State → Option Result × State
+plain_step o is_refused s = cond is_refused (none, s) (some (carried_out o s).0, (carried_out o s).1)
 
 -- ── Where an entry is used ──
 -- The contexts that use an entry of a TLB: one alone, or every context where the entry is global.
@@ -250,10 +250,10 @@ flushes Root o x page = false
 flushes Asid o x page = false
 flushes Mode o x page = false
 flushes All o x page = true
-flushes Addr o x page = eqb page (o.a / pageSize)
+flushes Addr o x page = eqb page (o.a / page_size)
 flushes Ctx o (own c) page = eqb c o.a
 flushes Ctx o global page = false
-flushes AddrCtx o x page = eqb page (o.a / pageSize) && covers x o.b
+flushes AddrCtx o x page = eqb page (o.a / page_size) && covers x o.b
 flushes Fetch o x page = false
 flushes Domain o x page = false
 
@@ -267,18 +267,18 @@ pub record Held : Type 0 where
 abbrev pub Places : Type 0
 Places = List (Option Held)
 
-unfoldable pub heldScope : Held → Scope
-heldScope h = scope_of h.context h.entry
+unfoldable pub held_scope : Held → Scope
+held_scope h = scope_of h.context h.entry
 
 -- Whether what is held matches a page in a context: a global entry matches its page in every context.
 unfoldable pub matches : Held → ℕ → ℕ → Bool
-matches h context page = covers (heldScope h) context && eqb h.page page
+matches h context page = covers (held_scope h) context && eqb h.page page
 
 -- the entry held that matches a page in a context
-unfoldable pub heldFor : ℕ → ℕ → Places → Option Entry
-heldFor context page [] = none
-heldFor context page (none ∷ hs) = heldFor context page hs
-heldFor context page (some h ∷ hs) = cond (matches h context page) (some h.entry) (heldFor context page hs)
+unfoldable pub held_for : ℕ → ℕ → Places → Option Entry
+held_for context page [] = none
+held_for context page (none ∷ hs) = held_for context page hs
+held_for context page (some h ∷ hs) = cond (matches h context page) (some h.entry) (held_for context page hs)
 
 -- Whether two scopes have a context in common.
 unfoldable pub meet : Scope → Scope → Bool
@@ -288,28 +288,28 @@ meet global x = true
 
 -- Whether two would both match some page in some context.
 unfoldable pub clash : Held → Held → Bool
-clash h k = meet (heldScope h) (heldScope k) && eqb h.page k.page
+clash h k = meet (held_scope h) (held_scope k) && eqb h.page k.page
 
 -- whether something held would clash with h
-unfoldable pub anyClash : Held → Places → Bool
-anyClash h [] = false
-anyClash h (none ∷ ps) = anyClash h ps
-anyClash h (some k ∷ ps) = clash h k || anyClash h ps
+unfoldable pub any_clash : Held → Places → Bool
+any_clash h [] = false
+any_clash h (none ∷ ps) = any_clash h ps
+any_clash h (some k ∷ ps) = clash h k || any_clash h ps
 
 -- What the chip does by itself: drop what place i holds, or load a page into place i.
 pub data Move : Type 0 where
   drop : ℕ → Move
   load : ℕ → ℕ → Move
 
-unfoldable pub isFree : {A : Type 0} → Option A → Bool
-isFree none = true
-isFree (some x) = false
+unfoldable pub is_free : {A : Type 0} → Option A → Bool
+is_free none = true
+is_free (some x) = false
 
 -- It holds at most one entry that matches a page in a given context: what would clash is not put in.
 unfoldable pub put_in : ℕ → ℕ → ℕ → Translation → Places → Places
 put_in i context page (found e) ps =
     let h : Held = record { context = context; page = page; entry = e } in
-    cond (anyClash h ps) ps (set ps i (some h))
+    cond (any_clash h ps) ps (set ps i (some h))
 put_in i context page (failed n) ps = ps
 
 -- A move; one that is not allowed does nothing. A load needs place i free, a page of the window (0 to 1,023) that the tables
@@ -317,31 +317,31 @@ put_in i context page (failed n) ps = ps
 unfoldable pub move : State → Places → Move → Places
 move s ps (drop i) = set ps i none
 move s ps (load i page) =
-    cond (isFree (get_or ps i none) && ltb page (rowSize oldWindow))
-    (put_in i s.registers.context page (outcome s (page * pageSize)) ps)
+    cond (is_free (get_or ps i none) && ltb page (row_size old_window))
+    (put_in i s.registers.context page (outcome s (page * page_size)) ps)
     ps
 
 unfoldable pub moves : State → Places → List Move → Places
 moves s ps xs = foldl (move s) ps xs
 
 -- An aligned access takes the entry held that matches its page in the current context, in place of the walk.
-unfoldable pub orWalk : Option Entry → Translation → Translation
-orWalk none t = t
-orWalk (some e) t = found e
+unfoldable pub or_walk : Option Entry → Translation → Translation
+or_walk none t = t
+or_walk (some e) t = found e
 
-unfoldable pub chipOutcome : State → Places → ℕ → Translation
-chipOutcome s ps a = orWalk (heldFor s.registers.context (a / pageSize) ps) (outcome s a)
+unfoldable pub chip_outcome : State → Places → ℕ → Translation
+chip_outcome s ps a = or_walk (held_for s.registers.context (a / page_size) ps) (outcome s a)
 
 -- A flush drops what is held of the scopes and pages it names.
-unfoldable pub flushPlace : Operation → Option Held → Option Held
-flushPlace o none = none
-flushPlace o (some h) = cond (flushes o.kind o (heldScope h) h.page) none (some h)
+unfoldable pub flush_place : Operation → Option Held → Option Held
+flush_place o none = none
+flush_place o (some h) = cond (flushes o.kind o (held_scope h) h.page) none (some h)
 
 -- One operation, told whether it was refused: its answer, the state, and what is held, before the moves that follow it.
-unfoldable pub chipStep : Operation → Bool → State → Places → Option Result × State × Places
-chipStep o true s ps = (none, s, ps)
-chipStep o false s ps =
-    (some (effect o.kind o s (chipOutcome s ps)).0, (effect o.kind o s (chipOutcome s ps)).1, map (flushPlace o) ps)
+unfoldable pub chip_step : Operation → Bool → State → Places → Option Result × State × Places
+chip_step o true s ps = (none, s, ps)
+chip_step o false s ps =
+    (some (effect o.kind o s (chip_outcome s ps)).0, (effect o.kind o s (chip_outcome s ps)).1, map (flush_place o) ps)
 
 -- ── What a TLB may remember ──
 -- For each scope and page there is a set of entries. Of such a set a word keeps: it is empty, it has one entry, or it has two or
@@ -381,21 +381,21 @@ same x y =
     && eqb x.domain y.domain
 
 -- A word after an entry was added to its set. A word that counts as several stays as found.
-unfoldable pub addTo : Kept → Entry → ℕ → ℕ
-addTo empty e w = word_of e
-addTo (one x) e w = cond (same x e) w 1
-addTo several e w = w
+unfoldable pub add_to : Kept → Entry → ℕ → ℕ
+add_to empty e w = word_of e
+add_to (one x) e w = cond (same x e) w 1
+add_to several e w = w
 
-unfoldable pub sameScope : Scope → Scope → Bool
-sameScope (own c) (own d) = eqb c d
-sameScope (own c) global = false
-sameScope global (own d) = false
-sameScope global global = true
+unfoldable pub same_scope : Scope → Scope → Bool
+same_scope (own c) (own d) = eqb c d
+same_scope (own c) global = false
+same_scope global (own d) = false
+same_scope global global = true
 
 -- A word of a scope after its page was noted in a context: a global entry is added to the set of `global` alone, another to that of
 -- the context alone. A page without mapping adds nothing.
 unfoldable pub noted : Scope → ℕ → Translation → ℕ → ℕ
-noted x context (found e) w = cond (sameScope x (scope_of context e)) (addTo (kept x w) e w) w
+noted x context (found e) w = cond (same_scope x (scope_of context e)) (add_to (kept x w) e w) w
 noted x context (failed n) w = w
 
 -- A set holds an entry different from the present outcome; no mapping and a failed walk differ from every entry.
@@ -407,16 +407,16 @@ differs several x = true
 
 -- For all pages, one that the tables map in the context now current has its entry added.
 unfoldable pub noted_in : State → Scope → ℕ → ℕ → ℕ
-noted_in s x page w = noted x s.registers.context (outcome s (page * pageSize)) w
+noted_in s x page w = noted x s.registers.context (outcome s (page * page_size)) w
 
 -- The word of a scope and page after an operation that left the state s: a flush empties the sets it names, then noting follows.
-unfoldable pub wordAfter : Operation → State → Scope → ℕ → ℕ → ℕ
-wordAfter o s x page w = noted_in s x page (cond (flushes o.kind o x page) 0 w)
+unfoldable pub word_after : Operation → State → Scope → ℕ → ℕ → ℕ
+word_after o s x page w = noted_in s x page (cond (flushes o.kind o x page) 0 w)
 
 -- the number of contexts k, told with a window of w MiB by the track's length alone: the track has k rows, then the row of the
 -- global entries
 unfoldable pub contexts : ℕ → List ℕ → ℕ
-contexts w t = length t / rowSize w - 1
+contexts w t = length t / row_size w - 1
 
 unfoldable pub row_of : ℕ → List ℕ → Scope → ℕ
 row_of w t (own c) = c
@@ -428,13 +428,13 @@ has_row w t (own c) = ltb c (contexts w t)
 has_row w t global = true
 
 -- the word of a scope and a page in the track
-unfoldable pub trackWord : ℕ → List ℕ → Scope → ℕ → ℕ
-trackWord w t x page = get_or t (rowSize w * row_of w t x + page) 0
+unfoldable pub track_word : ℕ → List ℕ → Scope → ℕ → ℕ
+track_word w t x page = get_or t (row_size w * row_of w t x + page) 0
 
 -- A page is stale in a context if its set there, or its global set, holds an entry different from its present outcome.
 unfoldable pub stale : ℕ → List ℕ → ℕ → ℕ → Translation → Bool
 stale w t context page y =
-    differs (kept (own context) (trackWord w t (own context) page)) y || differs (kept global (trackWord w t global page)) y
+    differs (kept (own context) (track_word w t (own context) page)) y || differs (kept global (track_word w t global page)) y
 
 -- ── Turned back ──
 -- 7 size: 1, 2 or 4
@@ -443,7 +443,7 @@ refuses7 o = among o.kind (Read ∷ Write ∷ []) && not (eqb o.b 1 || eqb o.b 2
 
 -- 8 address w × 0x100000 (0x400000) or more, flushes included
 unfoldable pub refuses8 : Operation → ℕ → Bool
-refuses8 o w = among o.kind (Read ∷ Write ∷ Addr ∷ AddrCtx ∷ Fetch ∷ []) && leb (addressLimit w) o.a
+refuses8 o w = among o.kind (Read ∷ Write ∷ Addr ∷ AddrCtx ∷ Fetch ∷ []) && leb (address_limit w) o.a
 
 -- 9 value too large for the size
 unfoldable pub refuses9 : Operation → Bool
@@ -452,11 +452,11 @@ refuses9 o =
     && (eqb o.b 1 && leb 0x100 o.c || eqb o.b 2 && leb 0x10000 o.c || eqb o.b 4 && leb 0x100000000 o.c)
 
 -- 10 root not a multiple of 2^(14 − N) (0x80)
-abbrev pub wrongRoot : ℕ → ℕ → Bool
-wrongRoot n root = not (eqb (root % rootAlignment n) 0)
+abbrev pub wrong_root : ℕ → ℕ → Bool
+wrong_root n root = not (eqb (root % root_alignment n) 0)
 
 unfoldable pub refuses10 : Operation → ℕ → Bool
-refuses10 o n = among o.kind (Root ∷ []) && wrongRoot n o.a
+refuses10 o n = among o.kind (Root ∷ []) && wrong_root n o.a
 
 -- 11 context k or more
 unfoldable pub refuses11 : Operation → ℕ → Bool
@@ -467,26 +467,26 @@ unfoldable pub refuses12 : Operation → Bool
 refuses12 o = among o.kind (Mode ∷ []) && leb 2 o.a
 
 -- 13 lent lengths: memory a multiple of 4,096 from 4,096 to 16,777,216; track 256 × w × (k + 1) (1,024 × (k + 1)), k from 1 to 256
-abbrev pub wrongMemory : List ℕ → Bool
-wrongMemory m = not (eqb (length m % memoryUnit) 0 && leb memoryUnit (length m) && leb (length m) memoryMost)
+abbrev pub wrong_memory : List ℕ → Bool
+wrong_memory m = not (eqb (length m % memory_unit) 0 && leb memory_unit (length m) && leb (length m) memory_most)
 
-abbrev pub wrongTrack : ℕ → List ℕ → Bool
-wrongTrack w t = not (eqb (length t) (rowSize w * (contexts w t + 1)) && leb 1 (contexts w t) && leb (contexts w t) contextsMost)
+abbrev pub wrong_track : ℕ → List ℕ → Bool
+wrong_track w t = not (eqb (length t) (row_size w * (contexts w t + 1)) && leb 1 (contexts w t) && leb (contexts w t) contexts_most)
 
 unfoldable pub refuses13 : ℕ → List ℕ → List ℕ → Bool
-refuses13 w m t = wrongMemory m || wrongTrack w t
+refuses13 w m t = wrong_memory m || wrong_track w t
 
 -- whether some of the first n fields of a domain register is 2; it has sixteen
-unfoldable pub someField2 : ℕ → ℕ → Bool
-someField2 zero domains = false
-someField2 (suc n) domains = someField2 n domains || eqb (field_of domains n) 2
+unfoldable pub some_field2 : ℕ → ℕ → Bool
+some_field2 zero domains = false
+some_field2 (suc n) domains = some_field2 n domains || eqb (field_of domains n) 2
 
-abbrev pub wrongDomains : ℕ → Bool
-wrongDomains domains = someField2 16 domains
+abbrev pub wrong_domains : ℕ → Bool
+wrong_domains domains = some_field2 16 domains
 
 -- 14 registers out of range: root a multiple of 2^(14 − N) (0x80), context 0 to k − 1, mode 0 or 1, no field of the domain register 2
 unfoldable pub refuses14 : Registers → ℕ → Bool
-refuses14 r k = wrongRoot oldSplit r.root || leb k r.context || leb 2 r.mode || wrongDomains r.domains
+refuses14 r k = wrong_root old_split r.root || leb k r.context || leb 2 r.mode || wrong_domains r.domains
 
 -- 15 user mode: all operations but read, write, mode and fetch need kernel mode
 unfoldable pub refuses15 : Operation → Registers → Bool
@@ -495,11 +495,11 @@ refuses15 o r = not (among o.kind (Read ∷ Write ∷ Mode ∷ Fetch ∷ [])) &&
 -- 16 stale: an aligned access to a page that is stale in the current context
 unfoldable pub refuses16 : Operation → Registers → List ℕ → List ℕ → Bool
 refuses16 o r m t =
-    among o.kind accesses && aligned o.a (accessSize o) && stale oldWindow t r.context (o.a / pageSize) (walk m r.root o.a)
+    among o.kind accesses && aligned o.a (access_size o) && stale old_window t r.context (o.a / page_size) (walk m r.root o.a)
 
 -- 17 some field of the new value of the domain register is 2
 unfoldable pub refuses17 : Operation → Bool
-refuses17 o = among o.kind (Domain ∷ []) && wrongDomains o.a
+refuses17 o = among o.kind (Domain ∷ []) && wrong_domains o.a
 
 -- 20 root while the context is not 0, whatever the new root is
 unfoldable pub refuses20 : Operation → Registers → Bool
@@ -508,19 +508,19 @@ refuses20 o r = among o.kind (Root ∷ []) && not (eqb r.context 0)
 -- An operation is tested for 13, 14, then 7 to 12, 17, 15, 20, then 16.
 unfoldable pub conditions : Operation → Registers → List ℕ → List ℕ → List (ℕ × Bool)
 conditions o r m t =
-    (13, refuses13 oldWindow m t) ∷ (14, refuses14 r (contexts oldWindow t))
-    ∷ (7, refuses7 o) ∷ (8, refuses8 o oldWindow) ∷ (9, refuses9 o) ∷ (10, refuses10 o oldSplit)
-    ∷ (11, refuses11 o (contexts oldWindow t)) ∷ (12, refuses12 o)
+    (13, refuses13 old_window m t) ∷ (14, refuses14 r (contexts old_window t))
+    ∷ (7, refuses7 o) ∷ (8, refuses8 o old_window) ∷ (9, refuses9 o) ∷ (10, refuses10 o old_split)
+    ∷ (11, refuses11 o (contexts old_window t)) ∷ (12, refuses12 o)
     ∷ (17, refuses17 o) ∷ (15, refuses15 o r) ∷ (20, refuses20 o r) ∷ (16, refuses16 o r m t) ∷ []
 
 -- Start can give 13 and 10, 13 first.
-unfoldable pub startConditions : List ℕ → List ℕ → Setting → List (ℕ × Bool)
-startConditions m t g = (13, refuses13 oldWindow m t) ∷ (10, wrongRoot oldSplit g.root) ∷ []
+unfoldable pub start_conditions : List ℕ → List ℕ → Setting → List (ℕ × Bool)
+start_conditions m t g = (13, refuses13 old_window m t) ∷ (10, wrong_root old_split g.root) ∷ []
 
 -- A single walk of an address is tested as start does, with no track, then for 8.
-unfoldable pub walkConditions : List ℕ → ℕ → ℕ → List (ℕ × Bool)
-walkConditions m root a =
-    (13, wrongMemory m) ∷ (10, wrongRoot oldSplit root) ∷ (8, refuses8 (record { kind = Read; a = a; b = 1; c = 0 }) oldWindow) ∷ []
+unfoldable pub walk_conditions : List ℕ → ℕ → ℕ → List (ℕ × Bool)
+walk_conditions m root a =
+    (13, wrong_memory m) ∷ (10, wrong_root old_split root) ∷ (8, refuses8 (record { kind = Read; a = a; b = 1; c = 0 }) old_window) ∷ []
 
 -- A number is given only when its condition holds and none before it does.
 unfoldable pub Given : ℕ → List (ℕ × Bool) → Type 0
@@ -529,10 +529,10 @@ Given r (x ∷ xs) = ((x.0 ≡ r) × (x.1 ≡ true)) ⊎ ((x.1 ≡ false) × Giv
 
 -- ── A single walk as one number ──
 -- an entry's track word, or 0x100000000 plus a fault
-unfoldable pub translationNumber : Translation → ℕ
-translationNumber (found e) = word_of e
-translationNumber (failed n) = 0x100000000 + n
+unfoldable pub translation_number : Translation → ℕ
+translation_number (found e) = word_of e
+translation_number (failed n) = 0x100000000 + n
 
 -- or 0x200000000 plus a refusal
-unfoldable pub refusedWalk : ℕ → ℕ
-refusedWalk r = 0x200000000 + r
+unfoldable pub refused_walk : ℕ → ℕ
+refused_walk r = 0x200000000 + r

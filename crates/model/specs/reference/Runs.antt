@@ -2,7 +2,7 @@
 use Rattle.std.specs.Prelude.{ℕ, suc, ◌≡◌, ◌⊎◌, Bool, true, false, cond, List, [], ◌∷◌, replicate}
 use Rattle.std.proofs.Math.Option.{Option, none, some}
 use Rattle.model.specs.Numbers.{Result, ok, fault, refused, shown}
-use Rattle.model.specs.reference.Rules.{State, fresh, plainStep, Held, Places, Move, moves, chipStep}
+use Rattle.model.specs.reference.Rules.{State, fresh, plain_step, Held, Places, Move, moves, chip_step}
 use Rattle.model.specs.step.Machine.{After}
 use Rattle.model.specs.Types.{Registers, Setting, Operation}
 
@@ -20,9 +20,9 @@ pub record Checker : Type 0 where
 abbrev pub next : Checker → Operation → After → After
 next m o x = m.step o x.registers x.memory x.track
 
-unfoldable pub checkerRun : Checker → After → List Operation → List After
-checkerRun m x [] = []
-checkerRun m x (o ∷ os) = next m o x ∷ checkerRun m (next m o x) os
+unfoldable pub checker_run : Checker → After → List Operation → List After
+checker_run m x [] = []
+checker_run m x (o ∷ os) = next m o x ∷ checker_run m (next m o x) os
 
 -- whether an operation was refused, and what it shows: an answer if it was not, memory and registers
 unfoldable pub is_refused : Result → Bool
@@ -39,9 +39,9 @@ told m x [] = []
 told m x (o ∷ os) = (o, is_refused (shown (next m o x).answer)) ∷ told m (next m o x) os
 
 -- ── The plain machine: the answers and states after each operation ──
-unfoldable pub plainRun : State → List (Operation × Bool) → List (Option Result × State)
-plainRun s [] = []
-plainRun s (x ∷ xs) = plainStep x.0 x.1 s ∷ plainRun (plainStep x.0 x.1 s).1 xs
+unfoldable pub plain_run : State → List (Operation × Bool) → List (Option Result × State)
+plain_run s [] = []
+plain_run s (x ∷ xs) = plain_step x.0 x.1 s ∷ plain_run (plain_step x.0 x.1 s).1 xs
 
 -- ── The chip: the answer, the state and what is held after each operation and the moves that follow it ──
 pub record Moment : Type 0 where
@@ -50,23 +50,23 @@ pub record Moment : Type 0 where
   pub held : Places
 
 -- before the first operation: nothing held, then the first moves
-unfoldable pub chipStart : ℕ → State → List Move → Moment
-chipStart n s ms = record { answer = none; state = s; held = moves s (replicate n none) ms }
+unfoldable pub chip_start : ℕ → State → List Move → Moment
+chip_start n s ms = record { answer = none; state = s; held = moves s (replicate n none) ms }
 
 -- one operation, told whether it was refused, then moves
-unfoldable pub chipNext : Moment → Operation → Bool → List Move → Moment
-chipNext x o b ms = settle (chipStep o b x.state x.held)
+unfoldable pub chip_next : Moment → Operation → Bool → List Move → Moment
+chip_next x o b ms = settle (chip_step o b x.state x.held)
   where
     settle : Option Result × State × Places → Moment
     settle y = record { answer = y.0; state = y.1; held = moves y.1 y.2 ms }
 
 -- `script i` are the moves after operation i
-unfoldable pub chipRun : Moment → List (Operation × Bool) → (ℕ → List Move) → List Moment
-chipRun x [] script = []
-chipRun x (y ∷ ys) script = chipNext x y.0 y.1 (script 0) ∷ chipRun (chipNext x y.0 y.1 (script 0)) ys (λ i. script (suc i))
+unfoldable pub chip_run : Moment → List (Operation × Bool) → (ℕ → List Move) → List Moment
+chip_run x [] script = []
+chip_run x (y ∷ ys) script = chip_next x y.0 y.1 (script 0) ∷ chip_run (chip_next x y.0 y.1 (script 0)) ys (λ i. script (suc i))
 
-unfoldable pub chipSeen : Moment → Option Result × State
-chipSeen x = (x.answer, x.state)
+unfoldable pub chip_seen : Moment → Option Result × State
+chip_seen x = (x.answer, x.state)
 
 -- some place holds h
 unfoldable pub Holds : Held → Places → Type 0

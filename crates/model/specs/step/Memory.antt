@@ -13,29 +13,29 @@ unfoldable pub within : Size → List ℕ → ℕ → Bool
 within size m at = leb (at + bytes_of size) (length m)
 
 -- the number that the two bytes from `at` make
-abbrev pub halfAt : List ℕ → ℕ → ℕ
-halfAt m at = get_or m at 0 + 256 * get_or m (at + 1) 0
+abbrev pub half_at : List ℕ → ℕ → ℕ
+half_at m at = get_or m at 0 + 256 * get_or m (at + 1) 0
 
 -- the number that the bytes of this size make from `at`
 abbrev pub number_at : Size → List ℕ → ℕ → ℕ
 number_at One m at = get_or m at 0
-number_at Two m at = halfAt m at
-number_at Four m at = halfAt m at + 65536 * halfAt m (at + 2)
+number_at Two m at = half_at m at
+number_at Four m at = half_at m at + 65536 * half_at m (at + 2)
 
 -- what loading finds
-unfoldable pub loadAt : Size → List ℕ → ℕ → Loaded
-loadAt size m at = cond (within size m at) (Value (number_at size m at)) Outside
+unfoldable pub load_at : Size → List ℕ → ℕ → Loaded
+load_at size m at = cond (within size m at) (Value (number_at size m at)) Outside
 
 -- memory with the low two bytes of v stored from `at`
-abbrev pub halfStored : List ℕ → ℕ → ℕ → List ℕ
-halfStored m at v = set (set m at (v % 256)) (at + 1) (v / 256 % 256)
+abbrev pub half_stored : List ℕ → ℕ → ℕ → List ℕ
+half_stored m at v = set (set m at (v % 256)) (at + 1) (v / 256 % 256)
 
 -- memory with the low bytes of v stored from `at`
 abbrev pub stored_at : Size → List ℕ → ℕ → ℕ → List ℕ
 stored_at One m at v = set m at (v % 256)
-stored_at Two m at v = halfStored m at v
-stored_at Four m at v = halfStored (halfStored m at v) (at + 2) (v / 65536)
+stored_at Two m at v = half_stored m at v
+stored_at Four m at v = half_stored (half_stored m at v) (at + 2) (v / 65536)
 
 -- memory after a store that may not lie in it: as it was, where it does not
-unfoldable pub writtenAt : Size → List ℕ → ℕ → ℕ → List ℕ
-writtenAt size m at v = cond (within size m at) (stored_at size m at v) m
+unfoldable pub written_at : Size → List ℕ → ℕ → ℕ → List ℕ
+written_at size m at v = cond (within size m at) (stored_at size m at v) m

@@ -1,6 +1,6 @@
 use mathlib.Core.Path.{◌≡◌, ap, sym, ◌∙◌}
 use borrow.Author.Tests.{eq-eqb, ne_eqb}
-use Rattle.model.specs.step.Track.{addEntry, addOutcome}
+use Rattle.model.specs.step.Track.{add_entry, add_outcome}
 use borrow.Author.Rules.{rules}
 use Rattle.noting.proofs.add_outcome.Statement.{statement}
 use Rattle.noting.proofs.add_outcome.Tie as tie
@@ -20,14 +20,14 @@ add-entry-requires c κs = search rules
 
 returns : tie.Need-returns
 returns c = let k = c.before.before.before.before.before in let a = k.before.before.args in
-    c.add-entry.ensures ∙ ap (addEntry a.global a.w) c.before.entry-word.ensures ∙ sym (ap (addOutcome a.global a.w) k.o.given.1 ∙ simp (eq-eqb _ _ c.before.before.if1.true))
+    c.add-entry.ensures ∙ ap (add_entry a.global a.w) c.before.entry-word.ensures ∙ sym (ap (add_outcome a.global a.w) k.o.given.1 ∙ simp (eq-eqb _ _ c.before.before.if1.true))
 
 enum_told : tie.Need-enum-told
 enum_told c = search rules
 
 returns-2 : tie.Need-returns-2
 returns-2 c = let k = c.before.before.before in let a = k.before.before.args in
-    sym (ap (addOutcome a.global a.w) k.o.given.1 ∙ simp (ne_eqb _ _ c.if1.false))
+    sym (ap (add_outcome a.global a.w) k.o.given.1 ∙ simp (ne_eqb _ _ c.if1.false))
 
 returns-3 : tie.Need-returns-3
 returns-3 c = search rules

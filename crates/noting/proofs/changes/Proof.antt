@@ -2,9 +2,9 @@ use Prim.Native.Nat.{zero-le}
 use mathlib.Core.Path.{◌≡◌, refl, sym, ap, ◌∙◌, subst}
 use native.Mathlib.Omega.{arith}
 use Rattle.model.specs.declared.Outcome.{Outcome}
-use Rattle.model.specs.step.Track.{addEntry}
+use Rattle.model.specs.step.Track.{add_entry}
 use Rattle.noting.specs.Mib.{Stays}
-use Rattle.noting.proofs.Settled.{both-stay}
+use Rattle.noting.proofs.Settled.{both_stay}
 use borrow.Author.Rules.{rules}
 use Rattle.noting.proofs.changes.Statement.{statement}
 use Rattle.noting.proofs.changes.Tie as tie
@@ -30,7 +30,7 @@ returns : tie.Need-returns
 returns c = let k = c.before.before.before.before.before in let a = k.before.before.args in let w = c.before.before.before in (
   zero-le,
   λ h. subst (λ (o : Outcome). Stays a.own_val a.shared o) (sym k.o.given.1)
-      (both-stay a.own_val a.shared _ _ _ w.word-for.ensures (c.before.add-entry.ensures ∙ ap (addEntry _ _) c.before.before.entry-word.ensures) c.if1.true),
+      (both_stay a.own_val a.shared _ _ _ w.word-for.ensures (c.before.add-entry.ensures ∙ ap (add_entry _ _) c.before.before.entry-word.ensures) c.if1.true),
 )
 
 enum_told : tie.Need-enum-told
@@ -41,7 +41,7 @@ returns-2 c = search rules
 
 returns-3 : tie.Need-returns-3
 returns-3 c = let a = c.before.before.args in
-    (zero-le, λ h. subst (λ (o : Outcome). Stays a.own_val a.shared o) (sym c.enum_told.given.1) (record { inOwn = refl; inShared = refl }))
+    (zero-le, λ h. subst (λ (o : Outcome). Stays a.own_val a.shared o) (sym c.enum_told.given.1) (record { in_own = refl; in_shared = refl }))
 
 pub changes-spec : {M : Type 1} → statement M
 changes-spec =

@@ -3,10 +3,10 @@ use lib.ListN.{length, get_or}
 use native.Mathlib.Omega.{arith}
 use mathlib.Core.Path.{◌≡◌, refl, sym, ◌∙◌, subst}
 use Rattle.model.specs.declared.Outcome.{Outcome}
-use Rattle.model.specs.step.Walk.{secondAt}
-use Rattle.noting.specs.Mib.{noteTable, Stays}
-use Rattle.noting.proofs.Mib.{table-word, by-table}
-use Rattle.noting.proofs.Settled.{Through, through-none, through-turn}
+use Rattle.model.specs.step.Walk.{second_at}
+use Rattle.noting.specs.Mib.{note_table, Stays}
+use Rattle.noting.proofs.Mib.{table_word, by_table}
+use Rattle.noting.proofs.Settled.{Through, through_none, through_turn}
 use borrow.Author.Rules.{rules}
 use Rattle.noting.proofs.changes_by_table.Statement.{statement}
 use Rattle.noting.proofs.changes_by_table.Tie as tie
@@ -18,7 +18,7 @@ use Rattle.noting.proofs.word.Reads as word-reads
 use Rattle.noting.proofs.words_inside.Reads as words-inside-reads
 
 abbrev invariant-loop : tie.invariant-loop
-invariant-loop m table own shared base n count₀ i₀ count i = (i ≤ n) × ((n ≤ length own) × ((count ≤ i) × ((i < n → table.base + 4 * n ≤ length m) × ((n < length own → length m < table.base + 4 * n + 4) × (count ≡ 0 → Through (noteTable m table) i own shared)))))
+invariant-loop m table own shared base n count₀ i₀ count i = (i ≤ n) × ((n ≤ length own) × ((count ≤ i) × ((i < n → table.base + 4 * n ≤ length m) × ((n < length own → length m < table.base + 4 * n + 4) × (count ≡ 0 → Through (note_table m table) i own shared)))))
 
 abbrev decreases-loop : tie.decreases-loop
 decreases-loop m table own shared base n count₀ i₀ count i = n - i
@@ -31,7 +31,7 @@ words-inside-requires c κs = search rules
 
 loop-holds : tie.Need-loop-init invariant-loop decreases-loop
 loop-holds c = let a = c.before.before.before.before.before.args in let e = c.words_inside.ensures in
-    (zero-le, (e.0, (zero-le, (λ h. e.1.0 (omega (arith, h)), (e.1.1, λ h. through-none (noteTable a.m.now a.table) a.own.now a.shared.now)))))
+    (zero-le, (e.0, (zero-le, (λ h. e.1.0 (omega (arith, h)), (e.1.1, λ h. through_none (note_table a.m.now a.table) a.own.now a.shared.now)))))
 
 mul-changes : tie.Need-overflow-mul-changes invariant-loop decreases-loop
 mul-changes c = omega arith
@@ -75,7 +75,7 @@ loop-again : tie.Need-loop-preserved invariant-loop decreases-loop
 loop-again c = let l = c.before.before.before.before.before.before in let s = l.before.before.before.before.before.before in let a = s.args in let i = l.loop.i in
     let v = l.loop.invariant.1.1.1 in
     let inside : a.table.base + 4 * i + 4 ≤ length a.m.now = omega (arith, v.0 (omega arith)) in
-    let found = c.before.second-of.ensures.same ∙ table-word a.m.now a.table i _ (omega arith) inside c.before.before.word.ensures in (
+    let found = c.before.second-of.ensures.same ∙ table_word a.m.now a.table i _ (omega arith) inside c.before.before.word.ensures in (
       omega arith,
       (
         l.loop.invariant.1.0,
@@ -85,7 +85,7 @@ loop-again c = let l = c.before.before.before.before.before.before in let s = l.
             λ h. v.0 (omega (arith, h)),
             (
               v.1.0,
-              λ h. through-turn (noteTable a.m.now a.table) i a.own.now a.shared.now (secondAt a.m.now a.table i) (λ (g w : ℕ). refl)
+              λ h. through_turn (note_table a.m.now a.table) i a.own.now a.shared.now (second_at a.m.now a.table i) (λ (g w : ℕ). refl)
                   (v.1.1 (omega (arith, h))) (omega arith) (omega (arith, s.requires.1))
                   (subst (λ (o : Outcome). Stays (get_or a.own.now i 0) (get_or a.shared.now i 0) o) found (c.changes.ensures.1 (omega (arith, h)))),
             ),
@@ -99,8 +99,8 @@ returns c = let l = c.before in let s = l.before.before.before.before.before.bef
     let v = l.loop.invariant.1.1.1.1 in
     let cut : l.loop.i < length a.own.now → length a.m.now < a.table.base + 4 * l.loop.i + 4 = λ h. omega (arith, v.0 (omega (arith, h))) in
     λ h. record {
-      inOwn = by-table a.m.now a.table 0 l.loop.i a.own.now a.own.now s.requires.0 cut (v.1 h).inOwn;
-      inShared = by-table a.m.now a.table 1 l.loop.i a.shared.now a.shared.now (omega (arith, s.requires.0, s.requires.1)) (λ k. cut (omega (arith, k, s.requires.1))) (v.1 h).inShared;
+      in_own = by_table a.m.now a.table 0 l.loop.i a.own.now a.own.now s.requires.0 cut (v.1 h).in_own;
+      in_shared = by_table a.m.now a.table 1 l.loop.i a.shared.now a.shared.now (omega (arith, s.requires.0, s.requires.1)) (λ k. cut (omega (arith, k, s.requires.1))) (v.1 h).in_shared;
     }
 
 pub changes-by-table-spec : {M : Type 1} → statement M

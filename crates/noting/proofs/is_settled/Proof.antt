@@ -5,11 +5,11 @@ use mathlib.Core.Path.{◌≡◌, refl, ap, sym, ◌∙◌}
 use mathlib.Core.Bool.{true≢false}
 use mathlib.Core.List.{List}
 use lib.ListN.{length}
-use Rattle.model.specs.Limits.{rowSize}
+use Rattle.model.specs.Limits.{row_size}
 use Rattle.model.specs.step.Rows.{in_row}
-use Rattle.model.specs.step.Track.{rows_of, lastRow, noteRow, noteTrack}
+use Rattle.model.specs.step.Track.{rows_of, last_row, note_row, note_track}
 use Rattle.limits.proofs.Sizes.{row_fits}
-use Rattle.track.proofs.Rows.{still-from}
+use Rattle.track.proofs.Rows.{still_from}
 use borrow.Author.Rules.{rules}
 use Rattle.noting.proofs.is_settled.Statement.{statement}
 use Rattle.noting.proofs.is_settled.Tie as tie
@@ -48,13 +48,13 @@ part-rows-settled-start : tie.Need-slice-bounds-rows-settled-start
 part-rows-settled-start c = search rules
 
 -- a row before the last one, and the last one, are whole rows
-whole : (w n context last : ℕ) → last ≡ lastRow w n → context < last → (context < rows_of w n) × (last < rows_of w n)
-unfolding lastRow
+whole : (w n context last : ℕ) → last ≡ last_row w n → context < last → (context < rows_of w n) × (last < rows_of w n)
+unfolding last_row
 whole w n context last e h = (omega arith, omega arith)
 
 part-rows-settled-end : tie.Need-slice-bounds-rows-settled-end
 part-rows-settled-end c = let s1 = c.before in let z = s1.before in let i = z.before in let k = i.before in let a = k.before.before.before.args in
-    let room = row_fits (rowSize a.window) a.context (length a.track.now) _ _ _ (whole a.window (length a.track.now) a.context _ k.last_row.ensures i.if1.true).0 refl z.row-size.ensures.0 s1.row-start.ensures.0 in
+    let room = row_fits (row_size a.window) a.context (length a.track.now) _ _ _ (whole a.window (length a.track.now) a.context _ k.last_row.ensures i.if1.true).0 refl z.row-size.ensures.0 s1.row-start.ensures.0 in
     omega arith
 
 mul-rows-settled-2 : tie.Need-overflow-mul-rows-settled-2
@@ -68,25 +68,25 @@ part-rows-settled-start-2 c = search rules
 
 part-rows-settled-end-2 : tie.Need-slice-bounds-rows-settled-end-2
 part-rows-settled-end-2 c = let s2 = c.before in let s1 = s2.before in let z = s1.before in let i = z.before in let k = i.before in let a = k.before.before.before.args in
-    let room = row_fits (rowSize a.window) k.last_row.result (length a.track.now) _ _ _ (whole a.window (length a.track.now) a.context _ k.last_row.ensures i.if1.true).1 refl z.row-size.ensures.0 s2.row-start2.ensures.0 in
+    let room = row_fits (row_size a.window) k.last_row.result (length a.track.now) _ _ _ (whole a.window (length a.track.now) a.context _ k.last_row.ensures i.if1.true).1 refl z.row-size.ensures.0 s2.row-start2.ensures.0 in
     omega arith
 
 rows-settled-requires : tie.Need-rows-settled-requires
 rows-settled-requires c κs = search rules
 
 returns : tie.Need-returns
-unfolding noteTrack
+unfolding note_track
 returns c = let s2 = c.before.before.before in let s1 = s2.before in let z = s1.before in let i = z.before in let k = i.before in let a = k.before.before.before.args in
     λ h.
     let y = c.rows_Settled.ensures h in
     let t : List ℕ = a.track.now in
     let last : ℕ = k.last_row.result in
     let both = whole a.window (length t) a.context last k.last_row.ensures i.if1.true in
-    let own = still-from (noteRow a.m.now a.tables 0) (rowSize a.window) a.context s1.row-start.result z.row-size.result _ t s1.row-start.ensures.0 z.row-size.ensures.0
-    (row_fits (rowSize a.window) a.context (length t) _ _ _ both.0 refl z.row-size.ensures.0 s1.row-start.ensures.0) (add-sub_cancel_left s1.row-start.result z.row-size.result) y.inOwn in
-    let shared = still-from (noteRow a.m.now a.tables 1) (rowSize a.window) last s2.row-start2.result z.row-size.result _ t s2.row-start2.ensures.0 z.row-size.ensures.0
-    (row_fits (rowSize a.window) last (length t) _ _ _ both.1 refl z.row-size.ensures.0 s2.row-start2.ensures.0) (add-sub_cancel_left s2.row-start2.result z.row-size.result) y.inShared in
-    shared ∙ ap (in_row (rowSize a.window) last (noteRow a.m.now a.tables 1)) own ∙ ap (λ (n : ℕ). in_row (rowSize a.window) n (noteRow a.m.now a.tables 1) (in_row (rowSize a.window) a.context (noteRow a.m.now a.tables 0) t)) k.last_row.ensures
+    let own = still_from (note_row a.m.now a.tables 0) (row_size a.window) a.context s1.row-start.result z.row-size.result _ t s1.row-start.ensures.0 z.row-size.ensures.0
+    (row_fits (row_size a.window) a.context (length t) _ _ _ both.0 refl z.row-size.ensures.0 s1.row-start.ensures.0) (add-sub_cancel_left s1.row-start.result z.row-size.result) y.in_own in
+    let shared = still_from (note_row a.m.now a.tables 1) (row_size a.window) last s2.row-start2.result z.row-size.result _ t s2.row-start2.ensures.0 z.row-size.ensures.0
+    (row_fits (row_size a.window) last (length t) _ _ _ both.1 refl z.row-size.ensures.0 s2.row-start2.ensures.0) (add-sub_cancel_left s2.row-start2.result z.row-size.result) y.in_shared in
+    shared ∙ ap (in_row (row_size a.window) last (note_row a.m.now a.tables 1)) own ∙ ap (λ (n : ℕ). in_row (row_size a.window) n (note_row a.m.now a.tables 1) (in_row (row_size a.window) a.context (note_row a.m.now a.tables 0) t)) k.last_row.ensures
 
 returns-2 : tie.Need-returns-2
 returns-2 c = λ h. absurd (true≢false (sym h))

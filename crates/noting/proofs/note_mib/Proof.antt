@@ -1,5 +1,5 @@
 use mathlib.Core.Path.{◌≡◌, sym, ◌∙◌}
-use Rattle.noting.proofs.Mib.{by_first, by-none, no_change}
+use Rattle.noting.proofs.Mib.{by_first, by_none, no_change}
 use borrow.Author.Rules.{rules}
 use Rattle.noting.proofs.note_mib.Statement.{statement}
 use Rattle.noting.proofs.note_mib.Tie as tie
@@ -57,7 +57,7 @@ returns-3 c = let f = c.before.before.before.before.before.before.before in let 
 
 returns-4 : tie.Need-returns-4
 returns-4 c = let l = c.before.before in let a = l.before.before.before.args in
-    by-none a.m.now a.at a.global a.mib.now (sym c.enum-told3.given.1 ∙ l.load.ensures)
+    by_none a.m.now a.at a.global a.mib.now (sym c.enum-told3.given.1 ∙ l.load.ensures)
 
 pub note-mib-spec : {M : Type 1} → statement M
 note-mib-spec =

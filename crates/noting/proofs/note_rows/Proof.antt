@@ -1,9 +1,9 @@
 use Prim.Native.Nat.{ℕ}
 use mathlib.Core.Path.{ap₂, ◌∙◌}
 use mathlib.Core.List.{List}
-use Rattle.model.specs.Limits.{rowSize}
+use Rattle.model.specs.Limits.{row_size}
 use Rattle.model.specs.step.Rows.{in_row}
-use Rattle.model.specs.step.Track.{noteRow, noteTrack}
+use Rattle.model.specs.step.Track.{note_row, note_track}
 use borrow.Author.Rules.{rules}
 use Rattle.noting.proofs.note_rows.Statement.{statement}
 use Rattle.noting.proofs.note_rows.Tie as tie
@@ -25,9 +25,9 @@ same_length : tie.Need-same-length
 same_length c = search rules
 
 returns : tie.Need-returns
-unfolding noteTrack
+unfolding note_track
 returns c = let first = c.before.before.before.before.before.before in let last = first.before.before in let a = last.before.before.before.args in
-    c.before.before.note-in2.ensures ∙ ap₂ (λ (n : ℕ) (l : List ℕ). in_row (rowSize a.window) n (noteRow a.m.now a.tables 1) l) last.last_row.ensures first.note-in.ensures
+    c.before.before.note-in2.ensures ∙ ap₂ (λ (n : ℕ) (l : List ℕ). in_row (row_size a.window) n (note_row a.m.now a.tables 1) l) last.last_row.ensures first.note-in.ensures
 
 pub note-rows-spec : {M : Type 1} → statement M
 note-rows-spec =

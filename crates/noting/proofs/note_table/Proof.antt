@@ -3,11 +3,11 @@ use lib.ListN.{length, length-set, get_or}
 use native.Mathlib.Omega.{arith}
 use mathlib.Core.Path.{◌≡◌, refl, ap, ◌∙◌}
 use borrow.Author.Rules.{rules}
-use Rattle.model.specs.step.Rows.{mapFirst}
-use Rattle.model.specs.step.Track.{addOutcome}
-use Rattle.noting.specs.Mib.{noteTable}
+use Rattle.model.specs.step.Rows.{map_first}
+use Rattle.model.specs.step.Track.{add_outcome}
+use Rattle.noting.specs.Mib.{note_table}
 use Rattle.track.proofs.Rows.{turn}
-use Rattle.noting.proofs.Mib.{table-word, by-table}
+use Rattle.noting.proofs.Mib.{table_word, by_table}
 use Rattle.noting.proofs.note_table.Statement.{statement}
 use Rattle.noting.proofs.note_table.Tie as tie
 use Rattle.noting.proofs.note_table.Reads as reads
@@ -18,7 +18,7 @@ use Rattle.noting.proofs.word.Reads as word-reads
 use Rattle.noting.proofs.words_inside.Reads as words-inside-reads
 
 abbrev invariant-loop : tie.invariant-loop
-invariant-loop m table global mib₀ base n i₀ mib i = (i ≤ n) × ((n ≤ length mib₀) × ((i < n → table.base + 4 * n ≤ length m) × ((n < length mib₀ → length m < table.base + 4 * n + 4) × ((mib ≡ mapFirst (noteTable m table global) 0 i mib₀) × (length mib ≡ length mib₀)))))
+invariant-loop m table global mib₀ base n i₀ mib i = (i ≤ n) × ((n ≤ length mib₀) × ((i < n → table.base + 4 * n ≤ length m) × ((n < length mib₀ → length m < table.base + 4 * n + 4) × ((mib ≡ map_first (note_table m table global) 0 i mib₀) × (length mib ≡ length mib₀)))))
 
 abbrev decreases-loop : tie.decreases-loop
 decreases-loop m table global mib₀ base n i₀ mib i = n - i
@@ -71,14 +71,14 @@ loop-again : tie.Need-loop-preserved invariant-loop decreases-loop
 loop-again c = let l = c.before.before.before.before.before in let a = l.before.before.before.before.before.args in
     let v = l.loop.invariant.1.1 in
     let inside : a.table.base + 4 * l.loop.i + 4 ≤ length a.m.now = omega (arith, v.0 (omega arith)) in
-    (omega arith, (l.loop.invariant.1.0, (λ h. v.0 (omega (arith, h)), (v.1.0, (turn (noteTable a.m.now a.table a.global) _ _ _ _ v.1.1.0 (omega arith) (c.add-outcome.ensures ∙ ap (addOutcome a.global (get_or l.loop.mib l.loop.i 0)) (c.before.second-of.ensures.same ∙ table-word a.m.now a.table l.loop.i _ (omega arith) inside c.before.before.word.ensures)), simp length-set v.1.1.1)))))
+    (omega arith, (l.loop.invariant.1.0, (λ h. v.0 (omega (arith, h)), (v.1.0, (turn (note_table a.m.now a.table a.global) _ _ _ _ v.1.1.0 (omega arith) (c.add-outcome.ensures ∙ ap (add_outcome a.global (get_or l.loop.mib l.loop.i 0)) (c.before.second-of.ensures.same ∙ table_word a.m.now a.table l.loop.i _ (omega arith) inside c.before.before.word.ensures)), simp length-set v.1.1.1)))))
 
 same_length : tie.Need-same-length invariant-loop decreases-loop
 same_length c = c.before.loop.invariant.1.1.1.1.1
 
 returns : tie.Need-returns invariant-loop decreases-loop
 returns c = let l = c.before in let a = l.before.before.before.before.before.args in
-    by-table a.m.now a.table a.global l.loop.i a.mib.now l.loop.mib (omega arith) (λ h. omega (arith, l.loop.invariant.1.1.1.0 (omega (arith, h)))) l.loop.invariant.1.1.1.1.0
+    by_table a.m.now a.table a.global l.loop.i a.mib.now l.loop.mib (omega arith) (λ h. omega (arith, l.loop.invariant.1.1.1.0 (omega (arith, h)))) l.loop.invariant.1.1.1.1.0
 
 pub note-table-spec : {M : Type 1} → statement M
 note-table-spec =

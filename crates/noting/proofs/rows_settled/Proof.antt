@@ -4,12 +4,12 @@ use native.Mathlib.Nat.{le_antisymm}
 use native.Mathlib.Omega.{arith}
 use mathlib.Core.Path.{◌≡◌, refl, ap, sym, ◌∙◌}
 use mathlib.Core.Bool.{true≢false}
-use Rattle.model.specs.step.Rows.{mapFirst}
-use Rattle.model.specs.step.Track.{notePage}
-use Rattle.noting.specs.Mib.{mibPages}
+use Rattle.model.specs.step.Rows.{map_first}
+use Rattle.model.specs.step.Track.{note_page}
+use Rattle.noting.specs.Mib.{mib_pages}
 use Rattle.track.proofs.Rows.{still_part}
-use Rattle.noting.proofs.Mib.{by-mib}
-use Rattle.noting.proofs.Settled.{Through, through-none, through-all}
+use Rattle.noting.proofs.Mib.{by_mib}
+use Rattle.noting.proofs.Settled.{Through, through_none, through_all}
 use borrow.Author.Rules.{rules}
 use Rattle.noting.proofs.rows_settled.Statement.{statement}
 use Rattle.noting.proofs.rows_settled.Tie as tie
@@ -19,14 +19,14 @@ use Rattle.noting.proofs.changes_of_mib.Reads as changes-of-mib-reads
 use Rattle.noting.proofs.mib_end.Reads as mib-end-reads
 
 abbrev invariant-loop : tie.invariant-loop
-invariant-loop m tables own shared page₀ page = (page ≤ length own) × (Through (notePage m tables) page own shared × (page < length own → page % mibPages ≡ 0))
+invariant-loop m tables own shared page₀ page = (page ≤ length own) × (Through (note_page m tables) page own shared × (page < length own → page % mib_pages ≡ 0))
 
 abbrev decreases-loop : tie.decreases-loop
 decreases-loop m tables own shared page₀ page = length own - page
 
 loop-holds : tie.Need-loop-init invariant-loop decreases-loop
 loop-holds c = let a = c.before.before.before.args in
-    (zero-le, (through-none (notePage a.m.now a.tables) a.own.now a.shared.now, λ h. refl))
+    (zero-le, (through_none (note_page a.m.now a.tables) a.own.now a.shared.now, λ h. refl))
 
 mib-end-requires : tie.Need-mib-end-requires invariant-loop decreases-loop
 mib-end-requires c κs = omega arith
@@ -76,15 +76,15 @@ loop-less c = omega arith
 loop-again : tie.Need-loop-preserved invariant-loop decreases-loop
 loop-again c = let e = c.before.before.before.before.before in let l = e.before.before in let s = l.before.before.before.before in let a = s.args in
     let page : ℕ = l.loop.page in
-    let starts : page % mibPages ≡ 0 = l.loop.invariant.1.1 (omega arith) in
+    let starts : page % mib_pages ≡ 0 = l.loop.invariant.1.1 (omega arith) in
     let k : ℕ = e.mib-end.result - page in
     let whole : page + k ≡ e.mib-end.result = omega arith in
     let z = c.before.changes-of-mib.ensures c.if1.false in (
       omega arith,
       (
         record {
-          inOwn = still_part (notePage a.m.now a.tables 0) a.own.now page k l.loop.invariant.1.0.inOwn (omega arith) (z.inOwn ∙ sym (by-mib a.m.now a.tables 0 page k (drop page a.own.now) starts (omega arith))) ∙ ap (λ (n : ℕ). mapFirst (notePage a.m.now a.tables 0) 0 n a.own.now) whole;
-          inShared = still_part (notePage a.m.now a.tables 1) a.shared.now page k l.loop.invariant.1.0.inShared (omega (arith, s.requires)) (z.inShared ∙ sym (by-mib a.m.now a.tables 1 page k (drop page a.shared.now) starts (omega arith))) ∙ ap (λ (n : ℕ). mapFirst (notePage a.m.now a.tables 1) 0 n a.shared.now) whole;
+          in_own = still_part (note_page a.m.now a.tables 0) a.own.now page k l.loop.invariant.1.0.in_own (omega arith) (z.in_own ∙ sym (by_mib a.m.now a.tables 0 page k (drop page a.own.now) starts (omega arith))) ∙ ap (λ (n : ℕ). map_first (note_page a.m.now a.tables 0) 0 n a.own.now) whole;
+          in_shared = still_part (note_page a.m.now a.tables 1) a.shared.now page k l.loop.invariant.1.0.in_shared (omega (arith, s.requires)) (z.in_shared ∙ sym (by_mib a.m.now a.tables 1 page k (drop page a.shared.now) starts (omega arith))) ∙ ap (λ (n : ℕ). map_first (note_page a.m.now a.tables 1) 0 n a.shared.now) whole;
         },
         λ h. omega (arith, e.mib-end.ensures.1.1.1 (omega arith), starts),
       ),
@@ -93,7 +93,7 @@ loop-again c = let e = c.before.before.before.before.before in let l = e.before.
 returns-2 : tie.Need-returns-2 invariant-loop decreases-loop
 returns-2 c = let l = c.before in let s = l.before.before.before.before in let a = s.args in
     let all : l.loop.page ≡ length a.own.now = le_antisymm l.loop.invariant.0 c.loop-test.false in
-    λ h. through-all (notePage a.m.now a.tables) l.loop.page a.own.now a.shared.now l.loop.invariant.1.0 all (all ∙ sym s.requires)
+    λ h. through_all (note_page a.m.now a.tables) l.loop.page a.own.now a.shared.now l.loop.invariant.1.0 all (all ∙ sym s.requires)
 
 pub rows-settled-spec : {M : Type 1} → statement M
 rows-settled-spec =

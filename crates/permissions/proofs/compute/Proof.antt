@@ -1,5 +1,5 @@
 use mathlib.Core.Path.{sym}
-use Rattle.permissions.proofs.Places.{past-answers, computed}
+use Rattle.permissions.proofs.Places.{past_answers, computed}
 use borrow.Author.Rules.{rules}
 use Rattle.permissions.proofs.compute.Statement.{statement}
 use Rattle.permissions.proofs.compute.Tie as tie
@@ -10,7 +10,7 @@ use Rattle.permissions.proofs.kind_at.Reads as kind-at-reads
 use Rattle.permissions.proofs.number_of.Reads as number-of-reads
 
 returns : tie.Need-returns
-returns c = sym (past-answers _ c.if1.true)
+returns c = sym (past_answers _ c.if1.true)
 
 cast-ap : tie.Need-overflow-cast-ap
 cast-ap c = search rules

@@ -4,7 +4,7 @@ use lib.Dec.{leb}
 use borrow.Author.Tests.{le-leb, lt-leb}
 use Rattle.model.specs.declared.Purpose.{Purpose}
 use Rattle.model.specs.step.Rights.{permitted}
-use Rattle.permissions.proofs.Laws.{fetch-permitted}
+use Rattle.permissions.proofs.Laws.{fetch_permitted}
 use borrow.Author.Rules.{rules}
 use Rattle.permissions.proofs.permitted.Statement.{statement}
 use Rattle.permissions.proofs.permitted.Tie as tie
@@ -26,7 +26,7 @@ enum-told-3 c = search rules
 
 returns : tie.Need-returns
 returns c = let k = c.before in let r = k.before.before in let a = r.before.args in
-    fetch-permitted a.ap a.mode a.xn _ true r.rights-of.ensures (le-leb 1 _ c.if1.true)
+    fetch_permitted a.ap a.mode a.xn _ true r.rights-of.ensures (le-leb 1 _ c.if1.true)
     ∙ sym (ap (λ (x : Purpose). permitted a.ap a.mode x a.xn) k.enum-told3.given.1)
 
 returns-2 : tie.Need-returns-2
@@ -41,7 +41,7 @@ returns-3 c = let r = c.before.before in let a = r.before.args in
 
 returns-4 : tie.Need-returns-4
 returns-4 c = let k = c.before in let r = k.before.before in let a = r.before.args in
-    fetch-permitted a.ap a.mode a.xn _ false r.rights-of.ensures (lt-leb 1 _ c.if1.false)
+    fetch_permitted a.ap a.mode a.xn _ false r.rights-of.ensures (lt-leb 1 _ c.if1.false)
     ∙ sym (ap (λ (x : Purpose). permitted a.ap a.mode x a.xn) k.enum-told3.given.1)
 
 pub permitted-spec : {M : Type 1} → statement M

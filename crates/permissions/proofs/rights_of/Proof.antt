@@ -1,5 +1,5 @@
 use borrow.Author.Tests.{eq-eqb, ne_eqb}
-use Rattle.model.specs.step.Rights.{rightsOf}
+use Rattle.model.specs.step.Rights.{rights_of}
 use borrow.Author.Rules.{rules}
 use Rattle.permissions.proofs.rights_of.Statement.{statement}
 use Rattle.permissions.proofs.rights_of.Tie as tie
@@ -12,14 +12,14 @@ kernel-rights-requires : tie.Need-kernel-rights-requires
 kernel-rights-requires c κs = search rules
 
 returns : tie.Need-returns
-unfolding rightsOf
+unfolding rights_of
 returns c = simp (eq-eqb c.before.before.args.mode 0 c.before.if1.true) c.kernel-rights.ensures
 
 user-rights-requires : tie.Need-user-rights-requires
 user-rights-requires c κs = search rules
 
 returns-2 : tie.Need-returns-2
-unfolding rightsOf
+unfolding rights_of
 returns-2 c = simp (ne_eqb c.before.before.args.mode 0 c.before.if1.false) c.user-rights.ensures
 
 pub rights-of-spec : {M : Type 1} → statement M

@@ -5,8 +5,8 @@ use lib.ListN.{length}
 use lib.Seq.{paste}
 use borrow.Author.Rules.{rules}
 use Rattle.permissions.specs.Sheet.{sheet}
-use Rattle.permissions.proofs.Places.{answer-at-small}
-use Rattle.permissions.proofs.Text.{next-line, all_lines}
+use Rattle.permissions.proofs.Places.{answer_at_small}
+use Rattle.permissions.proofs.Text.{next_line, all_lines}
 use Rattle.permissions.proofs.sheet_text.Statement.{statement}
 use Rattle.permissions.proofs.sheet_text.Tie as tie
 use Rattle.permissions.proofs.sheet_text.Reads as reads
@@ -30,7 +30,7 @@ compute-requires : tie.Need-compute-requires invariant-loop decreases-loop
 compute-requires c κs = search rules
 
 add-out : tie.Need-overflow-add-out invariant-loop decreases-loop
-add-out c = let k = c.before.before.loop.i in omega (arith, c.compute.ensures, answer-at-small k (search rules))
+add-out c = let k = c.before.before.loop.i in omega (arith, c.compute.ensures, answer_at_small k (search rules))
 
 mul-out : tie.Need-overflow-mul-out invariant-loop decreases-loop
 mul-out c = omega arith
@@ -56,7 +56,7 @@ loop-less c = omega arith
 loop-again : tie.Need-loop-preserved invariant-loop decreases-loop
 loop-again c =
     let l = c.before.before.loop in
-    (omega arith, l.invariant.1, next-line _ l.out l.i c.compute.result l.invariant.1 (search rules) c.compute.ensures l.invariant.2)
+    (omega arith, l.invariant.1, next_line _ l.out l.i c.compute.result l.invariant.1 (search rules) c.compute.ensures l.invariant.2)
 
 returns : tie.Need-returns invariant-loop decreases-loop
 returns c = let l = c.before.loop in l.invariant.2 ∙ all_lines _ l.i l.invariant.1 (omega arith)

@@ -1,4 +1,4 @@
-use Rattle.quiet.proofs.Laws.{word-met, no-word-met}
+use Rattle.quiet.proofs.Laws.{word_met, no_word_met}
 use borrow.Author.Rules.{rules}
 use Rattle.quiet.proofs.is_quiet.Statement.{statement}
 use Rattle.quiet.proofs.is_quiet.Tie as tie
@@ -22,14 +22,14 @@ overlaps-requires c κs = search rules
 
 returns : tie.Need-returns
 returns c = let o = c.before in let b = o.before.before in let a = b.before.before.args in
-    word-met a.window a.m.now a.tables a.at _ _ o.overlaps.ensures c.if1.true b.bytes.ensures
+    word_met a.window a.m.now a.tables a.at _ _ o.overlaps.ensures c.if1.true b.bytes.ensures
 
 touches-tables-requires : tie.Need-touches-tables-requires
 touches-tables-requires c κs = search rules
 
 returns-2 : tie.Need-returns-2
 returns-2 c = let i = c.before in let o = i.before in let b = o.before.before in let a = b.before.before.args in
-    no-word-met a.window a.m.now a.tables a.at _ _ o.overlaps.ensures i.if1.false c.touches-tables.ensures b.bytes.ensures
+    no_word_met a.window a.m.now a.tables a.at _ _ o.overlaps.ensures i.if1.false c.touches-tables.ensures b.bytes.ensures
 
 pub is-quiet-spec : {M : Type 1} → statement M
 is-quiet-spec =

@@ -1,9 +1,9 @@
 use mathlib.Core.Path.{ap, ◌∙◌}
-use Rattle.model.specs.step.Walk.{firstFrom}
+use Rattle.model.specs.step.Walk.{first_from}
 use Rattle.model.specs.declared.Loaded.{Loaded}
 use Rattle.model.specs.declared.FirstLevel.{FirstLevel}
 use Rattle.memory.proofs.Laws.{via}
-use Rattle.runs.specs.Quiet.{touchesTable}
+use Rattle.runs.specs.Quiet.{touches_table}
 use borrow.Author.Rules.{rules}
 use Rattle.quiet.proofs.touches_mib.Statement.{statement}
 use Rattle.quiet.proofs.touches_mib.Tie as tie
@@ -31,11 +31,11 @@ enum_told c = search rules
 returns : tie.Need-returns
 returns c = let l = c.before.before.before.before.before in let a = l.before.before.args in
     c.touches-table.ensures
-    ∙ ap (λ (x : FirstLevel). touchesTable x a.at a.n) (c.before.first_of.ensures.same ∙ via (λ (x : Loaded). firstFrom x 0) l.load.ensures c.before.before.before.w.given.1)
+    ∙ ap (λ (x : FirstLevel). touches_table x a.at a.n) (c.before.first_of.ensures.same ∙ via (λ (x : Loaded). first_from x 0) l.load.ensures c.before.before.before.w.given.1)
 
 returns-2 : tie.Need-returns-2
 returns-2 c = let l = c.before.before in let a = l.before.before.args in
-    via (λ (x : Loaded). touchesTable (firstFrom x 0) a.at a.n) l.load.ensures c.enum_told.given.1
+    via (λ (x : Loaded). touches_table (first_from x 0) a.at a.n) l.load.ensures c.enum_told.given.1
 
 pub touches-mib-spec : {M : Type 1} → statement M
 touches-mib-spec =

@@ -1,6 +1,6 @@
 use mathlib.Core.Path.{ap, sym, ◌∙◌}
 use Rattle.model.specs.declared.FirstLevel.{FirstLevel}
-use Rattle.runs.specs.Quiet.{touchesTable}
+use Rattle.runs.specs.Quiet.{touches_table}
 use borrow.Author.Rules.{rules}
 use Rattle.quiet.proofs.touches_table.Statement.{statement}
 use Rattle.quiet.proofs.touches_table.Tie as tie
@@ -31,7 +31,7 @@ returns-2 c = search rules
 
 returns-3 : tie.Need-returns-3
 returns-3 c = let a = c.before.before.before.before.before.args in
-    c.overlaps.ensures ∙ ap (λ (x : FirstLevel). touchesTable x a.at a.n) (sym c.before.before.before.x.given.1)
+    c.overlaps.ensures ∙ ap (λ (x : FirstLevel). touches_table x a.at a.n) (sym c.before.before.before.x.given.1)
 
 pub touches-table-spec : {M : Type 1} → statement M
 touches-table-spec =

@@ -2,8 +2,8 @@ use Prim.Native.Nat.{◌≤◌}
 use mathlib.Core.Path.{◌≡◌, refl, sym, ◌∙◌}
 use native.Mathlib.Omega.{arith}
 use borrow.Author.Rules.{rules}
-use Rattle.runs.specs.Quiet.{touchesTables}
-use Rattle.quiet.proofs.Laws.{one-mib, met, none_left, apart}
+use Rattle.runs.specs.Quiet.{touches_tables}
+use Rattle.quiet.proofs.Laws.{one_mib, met, none_left, apart}
 use Rattle.quiet.proofs.touches_tables.Statement.{statement}
 use Rattle.quiet.proofs.touches_tables.Tie as tie
 use Rattle.quiet.proofs.touches_tables.Reads as reads
@@ -12,7 +12,7 @@ use Rattle.quiet.proofs.touches_mib.Reads as touches-mib-reads
 
 -- the words below i decide
 abbrev invariant-loop : tie.invariant-loop
-invariant-loop m tables mibs at n i₀ i = (i ≤ mibs) × (touchesTables m tables i at n ≡ touchesTables m tables mibs at n)
+invariant-loop m tables mibs at n i₀ i = (i ≤ mibs) × (touches_tables m tables i at n ≡ touches_tables m tables mibs at n)
 
 abbrev decreases-loop : tie.decreases-loop
 decreases-loop m tables mibs at n i₀ i = i
@@ -46,7 +46,7 @@ loop-again : tie.Need-loop-preserved invariant-loop decreases-loop
 loop-again c = let l = c.before.before.before.before in let a = l.before.before.args in (
   omega arith,
   sym (apart c.before.touches-mib.ensures c.if1.false)
-      ∙ sym (one-mib a.m.now a.tables a.at a.n l.loop.i (omega arith))
+      ∙ sym (one_mib a.m.now a.tables a.at a.n l.loop.i (omega arith))
       ∙ l.loop.invariant.1,
 )
 

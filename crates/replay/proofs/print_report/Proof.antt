@@ -1,7 +1,7 @@
 use mathlib.Core.Path.{◌≡◌, sym, ◌∙◌}
 use native.Mathlib.Omega.{arith}
 use lib.Seq.{length-take-le}
-use Rattle.report.proofs.ShownLaws.{told-fits}
+use Rattle.report.proofs.ShownLaws.{told_fits}
 use borrow.Author.Rules.{rules}
 use Rattle.replay.proofs.print_report.Statement.{statement}
 use Rattle.replay.proofs.print_report.Tie as tie
@@ -34,12 +34,12 @@ enum-known-size c = search rules
 array-share-prefix-out : tie.Need-array-share-prefix-out
 array-share-prefix-out c =
     let w = c.before.before.before.before.before.before.before in
-    omega (arith, told-fits _ _ _ _ _ _ c.before.size.given.0.0 (sym c.before.size.given.1 ∙ w.write-report.ensures.told), w.before.before.before.before.report-buffer.ensures)
+    omega (arith, told_fits _ _ _ _ _ _ c.before.size.given.0.0 (sym c.before.size.given.1 ∙ w.write-report.ensures.told), w.before.before.before.before.report-buffer.ensures)
 
 slice-aggregate-write-all : tie.Need-slice-aggregate-write-all
 slice-aggregate-write-all c =
     let w = c.before.before.before.before.before.before.before.before in
-    sym (length-take-le _ _ (omega (arith, told-fits _ _ _ _ _ _ c.before.before.size.given.0.0 (sym c.before.before.size.given.1 ∙ w.write-report.ensures.told), w.write-report.auto.1.1.1.1.1.0)))
+    sym (length-take-le _ _ (omega (arith, told_fits _ _ _ _ _ _ c.before.before.size.given.0.0 (sym c.before.before.size.given.1 ∙ w.write-report.ensures.told), w.write-report.auto.1.1.1.1.1.0)))
 
 write-all-requires : tie.Need-write-all-requires
 write-all-requires c κs = search rules

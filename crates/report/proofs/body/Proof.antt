@@ -3,12 +3,12 @@ use mathlib.Core.Path.{◌≡◌, refl, ap, sym, ◌∙◌}
 use mathlib.Core.List.{List}
 use native.Mathlib.Omega.{arith}
 use lib.ListN.{length}
-use Rattle.model.specs.Numbers.{refused, refusalNumber}
+use Rattle.model.specs.Numbers.{refused, refusal_number}
 use Rattle.model.specs.step.Machine.{started}
-use Rattle.listing.specs.Whole.{readList}
-use Rattle.report_line.specs.Text.{startName, reportLine}
+use Rattle.listing.specs.Whole.{read_list}
+use Rattle.report_line.specs.Text.{start_name, report_line}
 use Rattle.report.specs.Report.{setting, body_of}
-use Rattle.report.proofs.ReportLaws.{noted-from, done-kept, faulted-kept, ran-same, ran-ended, carried_from, body_refused, body-done, body-faulted}
+use Rattle.report.proofs.ReportLaws.{noted_from, done_kept, faulted_kept, ran_same, ran_ended, carried_from, body_refused, body_done, body_faulted}
 use borrow.Author.Rules.{rules}
 use Rattle.report.proofs.body.Statement.{statement}
 use Rattle.report.proofs.body.Tie as tie
@@ -39,7 +39,7 @@ read-list-requires c κs =
     let e = c.before.before.before in
     let g = e.before.before.before.before.before in
     let a = g.before.before.before.before.before.before.before in
-    (omega (arith, a.requires), noted-from a.args.m.now a.args.t.now g.start.result _ _ g.start.ensures (done-kept _ _ e.enum_told.given.1))
+    (omega (arith, a.requires), noted_from a.args.m.now a.args.t.now g.start.result _ _ g.start.ensures (done_kept _ _ e.enum_told.given.1))
 
 enum-told-2 : tie.Need-enum-told-2
 enum-told-2 c = search rules
@@ -49,7 +49,7 @@ read-list-requires-2 c κs =
     let e = c.before.before.before in
     let g = e.before.before.before.before.before in
     let a = g.before.before.before.before.before.before.before in
-    (omega (arith, a.requires), noted-from a.args.m.now a.args.t.now g.start.result _ _ g.start.ensures (faulted-kept _ _ e.enum-told2.given.1))
+    (omega (arith, a.requires), noted_from a.args.m.now a.args.t.now g.start.result _ _ g.start.ensures (faulted_kept _ _ e.enum-told2.given.1))
 
 same_length : tie.Need-same-length
 same_length c = search rules
@@ -71,7 +71,7 @@ returns c =
     let t = a.t.now in
     let l = a.list.now in
     let k = e.answer.given.0.0 in
-    ran-ended (body_of m t l) (reportLine 0 startName (refused (refusalNumber k))) (started m t setting)
+    ran_ended (body_of m t l) (report_line 0 start_name (refused (refusal_number k))) (started m t setting)
     (body_refused m t l k (sym g.start.ensures.answer ∙ e.answer.given.1)) g.start.ensures.memory g.start.ensures.track (omega (arith, c.before.before.before.before.before.before.before.before.before.before.before.before.before.before.before.before.before.before.requires))
     (rw (sym n.refusal-number.ensures.0) w.put-start.ensures)
 
@@ -93,9 +93,9 @@ returns-2 c =
     let m = a.m.now in
     let t = a.t.now in
     let l = a.list.now in
-    ran-same _ _
-    (carried_from (started m t setting) _ _ _ (readList l) g.start.ensures.registers g.start.ensures.memory g.start.ensures.track
-    ∙ sym (body-done m t l _ (sym g.start.ensures.answer ∙ e.enum_told.given.1))) w.read-list.ensures
+    ran_same _ _
+    (carried_from (started m t setting) _ _ _ (read_list l) g.start.ensures.registers g.start.ensures.memory g.start.ensures.track
+    ∙ sym (body_done m t l _ (sym g.start.ensures.answer ∙ e.enum_told.given.1))) w.read-list.ensures
 
 same-length-7 : tie.Need-same-length-7
 same-length-7 c = search rules
@@ -115,9 +115,9 @@ returns-3 c =
     let m = a.m.now in
     let t = a.t.now in
     let l = a.list.now in
-    ran-same _ _
-    (carried_from (started m t setting) _ _ _ (readList l) g.start.ensures.registers g.start.ensures.memory g.start.ensures.track
-    ∙ sym (body-faulted m t l _ (sym g.start.ensures.answer ∙ e.enum-told2.given.1))) w.read-list2.ensures
+    ran_same _ _
+    (carried_from (started m t setting) _ _ _ (read_list l) g.start.ensures.registers g.start.ensures.memory g.start.ensures.track
+    ∙ sym (body_faulted m t l _ (sym g.start.ensures.answer ∙ e.enum-told2.given.1))) w.read-list2.ensures
 
 pub body-spec : {M : Type 1} → statement M
 body-spec =

@@ -7,10 +7,10 @@ use Rattle.model.specs.declared.Answer.TheVariants.{Done}
 use Rattle.model.specs.declared.Operation.{Operation}
 use Rattle.listing.specs.declared.Line.TheVariants.{Op}
 use Rattle.listing.specs.Line.{line_of}
-use Rattle.listing.specs.Whole.{readLines}
-use Rattle.listing.proofs.CanonicalLaws.{line-rest}
+use Rattle.listing.specs.Whole.{read_lines}
+use Rattle.listing.proofs.CanonicalLaws.{line_rest}
 use Rattle.report.specs.Report.{replayed}
-use Rattle.report.proofs.Running.{Running, running-start, running_more, running-refused, running-end}
+use Rattle.report.proofs.Running.{Running, running_start, running_more, running_refused, running_end}
 use Rattle.report.proofs.lines.Statement.{statement}
 use Rattle.report.proofs.lines.Tie as tie
 use Rattle.report.proofs.lines.Reads as reads
@@ -24,7 +24,7 @@ use Rattle.report_line.proofs.put_answer.Reads as put-answer-reads
 
 abbrev invariant-loop : tie.invariant-loop
 invariant-loop m₀ t₀ list out₀ at regs₀ left₀ place₀ line₀ m t out regs left place line =
-    Running (replayed 2 (record { answer = Done 0; registers = regs₀; memory = m₀; track = t₀ }) (readLines (length list) 2 list)) out₀ at regs m t out left place line
+    Running (replayed 2 (record { answer = Done 0; registers = regs₀; memory = m₀; track = t₀ }) (read_lines (length list) 2 list)) out₀ at regs m t out left place line
     × ((length m ≡ length m₀) × (length t ≡ length t₀))
 
 abbrev decreases-loop : tie.decreases-loop
@@ -33,7 +33,7 @@ decreases-loop m₀ t₀ list out₀ at regs₀ left₀ place₀ line₀ m t out
 loop-holds : tie.Need-loop-init invariant-loop decreases-loop
 loop-holds c =
     let a = c.before.before.before.before in
-    (running-start _ a.args.list.now a.args.out.now a.args.at a.requires.0 a.requires.1.0 a.requires.1.1, (refl, refl))
+    (running_start _ a.args.list.now a.args.out.now a.args.at a.requires.0 a.requires.1.0 a.requires.1.1, (refl, refl))
 
 read-line-requires : tie.Need-read-line-requires invariant-loop decreases-loop
 read-line-requires c κs = search rules
@@ -72,7 +72,7 @@ returns c =
     let x = n.before.before.before in
     let r = x.before.before in
     let l = r.before.before in
-    running-refused l.loop.invariant.0 x.x.given.0.0 w.put-refusal.new.0 w.put-refusal.result r.before.loop-test.true (sym r.read-line.ensures.0 ∙ x.x.given.1)
+    running_refused l.loop.invariant.0 x.x.given.0.0 w.put-refusal.new.0 w.put-refusal.result r.before.loop-test.true (sym r.read-line.ensures.0 ∙ x.x.given.1)
     (rw (sym n.list-number.ensures.0) w.put-refusal.ensures)
 
 rest-requires : tie.Need-rest-requires invariant-loop decreases-loop
@@ -89,7 +89,7 @@ op-line : (c : tie.After-rest invariant-loop decreases-loop) → line_of c.befor
 op-line c = let o = c.before.before.before.before.before.before.before.before.before.before.before.before.before.before in sym o.before.before.read-line.ensures.0 ∙ o.o.given.1
 
 loop-less : tie.Need-loop-smaller invariant-loop decreases-loop
-loop-less c = omega (arith, ap length c.rest.ensures, line-rest (op c) c.before.before.before.before.before.before.before.before.before.before.before.before.before.before.before.before.before.before.loop.left.now (op-line c))
+loop-less c = omega (arith, ap length c.rest.ensures, line_rest (op c) c.before.before.before.before.before.before.before.before.before.before.before.before.before.before.before.before.before.before.loop.left.now (op-line c))
 
 loop-again : tie.Need-loop-preserved invariant-loop decreases-loop
 loop-again c =
@@ -111,7 +111,7 @@ same-length-6 : tie.Need-same-length-6 invariant-loop decreases-loop
 same-length-6 c = c.before.loop.invariant.0.long
 
 returns-2 : tie.Need-returns-2 invariant-loop decreases-loop
-returns-2 c = running-end c.before.loop.invariant.0 c.loop-test.false
+returns-2 c = running_end c.before.loop.invariant.0 c.loop-test.false
 
 pub lines-spec : {M : Type 1} → statement M
 lines-spec =

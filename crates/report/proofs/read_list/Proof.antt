@@ -4,14 +4,14 @@ use mathlib.Core.List.{List}
 use native.Mathlib.Omega.{arith}
 use lib.ListN.{length}
 use Rattle.text.specs.Split.{past}
-use Rattle.text.proofs.SplitLaws.{past-length}
+use Rattle.text.proofs.SplitLaws.{past_length}
 use Rattle.names.specs.Names.{newline}
 use Rattle.listing.specs.declared.Reason.TheVariants.{TooLong, Names}
-use Rattle.listing.specs.Whole.{readRest}
+use Rattle.listing.specs.Whole.{read_rest}
 use Rattle.model.specs.declared.Answer.TheVariants.{Done}
 use Rattle.model.specs.step.Machine.{After}
 use Rattle.report.specs.Report.{replayed}
-use Rattle.report.proofs.ReportLaws.{read-long, read_names, read_none, not-long, ran-same, ran-stopped}
+use Rattle.report.proofs.ReportLaws.{read_long, read_names, read_none, not_long, ran_same, ran_stopped}
 use borrow.Author.Rules.{rules}
 use Rattle.report.proofs.read_list.Statement.{statement}
 use Rattle.report.proofs.read_list.Tie as tie
@@ -38,7 +38,7 @@ same_length c = search rules
 
 returns : tie.Need-returns
 returns c = let w = c.before.before in let n = w.before in let i = n.before.before in let h = i.before in let a = h.before.before.before.before.before in
-    ran-stopped _ a.args.list.now TooLong _ (read-long a.args.list.now (sym h.too_long.ensures ∙ i.if1.true)) (omega (arith, a.requires.0))
+    ran_stopped _ a.args.list.now TooLong _ (read_long a.args.list.now (sym h.too_long.ensures ∙ i.if1.true)) (omega (arith, a.requires.0))
     n.list-number.ensures.0 w.put-refusal.ensures
 
 has-names-requires : tie.Need-has-names-requires
@@ -53,8 +53,8 @@ lines-requires c κs =
     let h = c.before.before.before.before.before.before.before in
     let a = h.before.before.before.before.before in
     let l = a.args.list.now in
-    let b = not-long l (sym h.too_long.ensures ∙ c.before.before.before.before.before.before.if1.false) in
-    (omega (arith, ap length f.rest.ensures, past-length newline l, b), (omega (arith, ap length f.rest.ensures, past-length newline l, b, a.requires.0), a.requires.1))
+    let b = not_long l (sym h.too_long.ensures ∙ c.before.before.before.before.before.before.if1.false) in
+    (omega (arith, ap length f.rest.ensures, past_length newline l, b), (omega (arith, ap length f.rest.ensures, past_length newline l, b, a.requires.0), a.requires.1))
 
 same-length-2 : tie.Need-same-length-2
 same-length-2 c = search rules
@@ -74,8 +74,8 @@ returns-2 c =
     let a = c.before.before.before.before.before.before.before.before.before.before.before.before.before.before.before.before.before.before.before in
     let x : After = record { answer = Done 0; registers = a.args.r; memory = a.args.m.now; track = a.args.t.now } in
     let l = a.args.list.now in
-    ran-same _ _
-    (ap (λ (z : List ℕ). replayed 2 x (readRest z)) f.rest.ensures
+    ran_same _ _
+    (ap (λ (z : List ℕ). replayed 2 x (read_rest z)) f.rest.ensures
     ∙ sym (ap (replayed 2 x) (read_names l (sym h.too_long.ensures ∙ c.before.before.before.before.before.before.before.before.before.before.before.before.before.if1.false) (sym i.before.has-names.ensures ∙ i.if2.true)))) w.lines.ensures
 
 list-number-requires-2 : tie.Need-list-number-requires-2
@@ -89,7 +89,7 @@ same-length-5 c = search rules
 
 returns-3 : tie.Need-returns-3
 returns-3 c = let w = c.before.before in let n = w.before in let i = n.before.before in let j = i.before.before in let h = j.before in let a = h.before.before.before.before.before in
-    ran-stopped _ a.args.list.now Names _
+    ran_stopped _ a.args.list.now Names _
     (read_none a.args.list.now (sym h.too_long.ensures ∙ j.if1.false) (sym i.before.has-names.ensures ∙ i.if2.false)) (omega (arith, a.requires.0))
     n.list-number2.ensures.0 w.put-refusal2.ensures
 

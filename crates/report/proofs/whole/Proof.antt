@@ -3,10 +3,10 @@ use mathlib.Core.Path.{◌≡◌, refl, ap, sym, ◌∙◌}
 use mathlib.Core.List.{List}
 use native.Mathlib.Omega.{arith}
 use lib.ListN.{length}
-use Rattle.text.proofs.PutLaws.{wrote-fits, length_over}
+use Rattle.text.proofs.PutLaws.{wrote_fits, length_over}
 use Rattle.report_line.specs.Text.{header}
-use Rattle.report.specs.Report.{body_of, reportOf}
-use Rattle.report.proofs.ReportLaws.{ran-headed}
+use Rattle.report.specs.Report.{body_of, report_of}
+use Rattle.report.proofs.ReportLaws.{ran_headed}
 use borrow.Author.Rules.{rules}
 use Rattle.report.proofs.whole.Statement.{statement}
 use Rattle.report.proofs.whole.Tie as tie
@@ -23,7 +23,7 @@ body-requires c κs =
     let w = c.before.before.before.before.before in
     let a = c.before.before.before.before.before.before.before.before.before.before.before in
     let d = a.args.out.now in
-    let f = wrote-fits (length header) d 0 header _ _ (omega (arith, a.requires)) w.put-header.ensures in
+    let f = wrote_fits (length header) d 0 header _ _ (omega (arith, a.requires)) w.put-header.ensures in
     omega (arith, f.0, ap length f.1 ∙ length_over d 0 header (omega (arith, a.requires)), a.requires)
 
 same_length : tie.Need-same-length
@@ -36,12 +36,12 @@ same-length-3 : tie.Need-same-length-3
 same-length-3 c = search rules
 
 returns : tie.Need-returns
-unfolding reportOf
+unfolding report_of
 returns c =
     let w = c.before.before.before.before.before.before in
     let h = c.before.before.before.before.before.before.before.before.before.before.before.before in
     let a = c.before.before.before.before.before.before.before.before.before.before.before.before.before.before.before.before.before.before in
-    ran-headed (body_of a.args.m.now a.args.t.now a.args.list.now) (omega (arith, a.requires)) h.put-header.ensures w.body.ensures
+    ran_headed (body_of a.args.m.now a.args.t.now a.args.list.now) (omega (arith, a.requires)) h.put-header.ensures w.body.ensures
 
 pub whole-spec : {M : Type 1} → statement M
 whole-spec =

@@ -1,5 +1,5 @@
 use mathlib.Core.Path.{ap, ◌∙◌}
-use Rattle.report_ffi.specs.Call.{toldNumber}
+use Rattle.report_ffi.specs.Call.{told_number}
 use borrow.Author.Rules.{rules}
 use Rattle.report_ffi.proofs.list_report.Statement.{statement}
 use Rattle.report_ffi.proofs.list_report.Tie as tie
@@ -26,7 +26,7 @@ same-length-3 c = search rules
 returns : tie.Need-returns
 returns c = let w = c.before.before.before.before.before.before.before in
     record {
-      number = c.told-number.ensures ∙ ap toldNumber w.write-report.ensures.told;
+      number = c.told-number.ensures ∙ ap told_number w.write-report.ensures.told;
       image = w.write-report.ensures.image;
       track = w.write-report.ensures.track;
       out = w.write-report.ensures.out;

@@ -1,7 +1,7 @@
 use native.Mathlib.Omega.{arith}
 use lib.ListN.{length}
 use mathlib.Core.List.{List, [], ◌∷◌}
-use Rattle.text.proofs.PutLaws.{wrote-fits}
+use Rattle.text.proofs.PutLaws.{wrote_fits}
 use Rattle.model.specs.Numbers.{Result, ok, fault, refused}
 use Rattle.report_line.specs.Text.{word}
 use borrow.Author.Rules.{rules}
@@ -43,21 +43,21 @@ same_length c = search rules
 
 returns : tie.Need-returns
 returns c = let k = c.before.before in let e = k.before.before.before in let a = e.before.before.before.args in
-    rw e.enum_told.given.1 (wrote-fits (length (word (ok 0))) a.out.now a.at (word (ok 0)) _ _ (omega (arith, e.before.before.before.requires)) k.put.ensures)
+    rw e.enum_told.given.1 (wrote_fits (length (word (ok 0))) a.out.now a.at (word (ok 0)) _ _ (omega (arith, e.before.before.before.requires)) k.put.ensures)
 
 same-length-2 : tie.Need-same-length-2
 same-length-2 c = search rules
 
 returns-2 : tie.Need-returns-2
 returns-2 c = let k = c.before.before in let e = k.before.before.before in let a = e.before.before.before.args in
-    rw e.enum-told2.given.1 (wrote-fits (length (word (fault 0))) a.out.now a.at (word (fault 0)) _ _ (omega (arith, e.before.before.before.requires)) k.put2.ensures)
+    rw e.enum-told2.given.1 (wrote_fits (length (word (fault 0))) a.out.now a.at (word (fault 0)) _ _ (omega (arith, e.before.before.before.requires)) k.put2.ensures)
 
 same-length-3 : tie.Need-same-length-3
 same-length-3 c = search rules
 
 returns-3 : tie.Need-returns-3
 returns-3 c = let k = c.before.before in let e = k.before.before.before in let a = e.before.before.before.args in
-    rw e.enum-told3.given.1 (wrote-fits (length (word (refused 0))) a.out.now a.at (word (refused 0)) _ _ (omega (arith, e.before.before.before.requires)) k.put3.ensures)
+    rw e.enum-told3.given.1 (wrote_fits (length (word (refused 0))) a.out.now a.at (word (refused 0)) _ _ (omega (arith, e.before.before.before.requires)) k.put3.ensures)
 
 pub put-word-spec : {M : Type 1} → statement M
 put-word-spec =

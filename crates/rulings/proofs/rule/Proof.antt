@@ -1,7 +1,7 @@
 use Prim.Native.Nat.{ℕ, ◌<◌}
 use mathlib.Core.Path.{subst⁻¹, ◌∙◌}
 use native.Mathlib.Omega.{arith}
-use Rattle.rulings.proofs.Laws.{within-below, flag-below, looked-up}
+use Rattle.rulings.proofs.Laws.{within_below, flag_below, looked_up}
 use Rattle.model.proofs.Tellings.{tells}
 use Rattle.permissions.specs.Sheet.{answer}
 use borrow.Author.Rules.{rules}
@@ -30,10 +30,10 @@ flag-requires-2 c κs = search rules
 place-requires : tie.Need-place-requires
 place-requires c κs =
     let f = c.before in let m = f.before in let w = m.before in let a = w.before.args in (
-      subst⁻¹ (λ (n : ℕ). n < 8) w.within.ensures (within-below 8 a.ap (omega arith)),
-      subst⁻¹ (λ (n : ℕ). n < 2) m.flag.ensures (flag-below a.mode),
-      subst⁻¹ (λ (n : ℕ). n < 4) f.within2.ensures (within-below 4 a.field (omega arith)),
-      subst⁻¹ (λ (n : ℕ). n < 2) c.flag2.ensures (flag-below a.xn),
+      subst⁻¹ (λ (n : ℕ). n < 8) w.within.ensures (within_below 8 a.ap (omega arith)),
+      subst⁻¹ (λ (n : ℕ). n < 2) m.flag.ensures (flag_below a.mode),
+      subst⁻¹ (λ (n : ℕ). n < 4) f.within2.ensures (within_below 4 a.field (omega arith)),
+      subst⁻¹ (λ (n : ℕ). n < 2) c.flag2.ensures (flag_below a.xn),
     )
 
 answer-at-requires : tie.Need-answer-at-requires
@@ -47,7 +47,7 @@ returns c =
     let t = c.before in let p = t.before in let g = p.before in let f = g.before in let m = f.before in let w = m.before in
     let a = w.before.args in
     tells answer (c.ruling-of.ensures
-    ∙ looked-up a.ap a.mode a.purpose a.field a.xn w.within.ensures m.flag.ensures f.within2.ensures g.flag2.ensures p.place.ensures t.answer_at.ensures)
+    ∙ looked_up a.ap a.mode a.purpose a.field a.xn w.within.ensures m.flag.ensures f.within2.ensures g.flag2.ensures p.place.ensures t.answer_at.ensures)
 
 pub rule-spec : {M : Type 1} → statement M
 rule-spec =

@@ -3,10 +3,10 @@ use mathlib.Core.Path.{◌≡◌, refl, sym, ap, ap₂, ◌∙◌}
 use mathlib.Core.List.{List}
 use mathlib.Core.Bool.{Bool, cond}
 use borrow.Author.Tests.{eq-eqb, ne_eqb}
-use Rattle.model.specs.Limits.{oldWindow}
+use Rattle.model.specs.Limits.{old_window}
 use Rattle.model.specs.step.Machine.{tables_of}
-use Rattle.model.specs.step.Track.{noteTrack, flushContext}
-use Rattle.runs.specs.Step.{noPage, everyPage, noteExtent}
+use Rattle.model.specs.step.Track.{note_track, flush_context}
+use Rattle.runs.specs.Step.{no_page, every_page, note_extent}
 use borrow.Author.Rules.{rules}
 use Rattle.run_step.proofs.flush_context.Statement.{statement}
 use Rattle.run_step.proofs.flush_context.Tie as tie
@@ -30,8 +30,8 @@ same_length c = search rules
 returns : tie.Need-returns
 returns c = let i = c.before.before.before.before.before in let f = i.before.before.before.before in let a = f.before.before.before.before.args in
     c.before.before.note-rows.ensures
-    ∙ ap (λ (l : List ℕ). noteTrack oldWindow a.m.now (tables_of a.r) a.r.context l) f.flush-context.ensures
-    ∙ sym (ap (λ (b : Bool). noteExtent oldWindow (cond b everyPage noPage) a.m.now (tables_of a.r) a.r.context (flushContext oldWindow a.named a.t.now)) (eq-eqb a.named a.r.context i.if1.true))
+    ∙ ap (λ (l : List ℕ). note_track old_window a.m.now (tables_of a.r) a.r.context l) f.flush-context.ensures
+    ∙ sym (ap (λ (b : Bool). note_extent old_window (cond b every_page no_page) a.m.now (tables_of a.r) a.r.context (flush_context old_window a.named a.t.now)) (eq-eqb a.named a.r.context i.if1.true))
 
 same-length-2 : tie.Need-same-length-2
 same-length-2 c = search rules
@@ -39,7 +39,7 @@ same-length-2 c = search rules
 returns-2 : tie.Need-returns-2
 returns-2 c = let f = c.before.before.before.before in let a = f.before.before.before.before.args in
     f.flush-context.ensures
-    ∙ sym (ap (λ (b : Bool). noteExtent oldWindow (cond b everyPage noPage) a.m.now (tables_of a.r) a.r.context (flushContext oldWindow a.named a.t.now)) (ne_eqb a.named a.r.context c.if1.false))
+    ∙ sym (ap (λ (b : Bool). note_extent old_window (cond b every_page no_page) a.m.now (tables_of a.r) a.r.context (flush_context old_window a.named a.t.now)) (ne_eqb a.named a.r.context c.if1.false))
 
 pub flush-context-spec : {M : Type 1} → statement M
 flush-context-spec =

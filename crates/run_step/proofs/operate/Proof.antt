@@ -1,7 +1,7 @@
 use Prim.Native.Nat.{ℕ}
 use mathlib.Core.Path.{◌≡◌, refl, sym, ap, ap₂, ◌∙◌}
 use mathlib.Core.List.{List}
-use Rattle.model.specs.Limits.{oldWindow}
+use Rattle.model.specs.Limits.{old_window}
 use Rattle.model.specs.declared.Access.{Access}
 use Rattle.model.specs.declared.Answer.TheVariants.{Done}
 use Rattle.model.specs.declared.Kind.{Kind}
@@ -9,9 +9,9 @@ use Rattle.model.specs.declared.Purpose.TheVariants.{ToRead, ToWrite, ToFetch}
 use Rattle.model.specs.declared.Registers.{Registers}
 use Rattle.model.specs.declared.Size.{Size}
 use Rattle.model.specs.declared.Size.TheVariants.{Four}
-use Rattle.model.specs.step.Machine.{tables_of, accessAt, readFrom, writeTo, read_step, writeStep, fetchStep, operate}
+use Rattle.model.specs.step.Machine.{tables_of, access_at, read_from, write_to, read_step, write_step, fetch_step, operate}
 use Rattle.transfer.proofs.Laws.{regive}
-use Rattle.runs.specs.Step.{noPage, afterWrite, notedSoFar, extentOf, flushedBy, runOperate}
+use Rattle.runs.specs.Step.{no_page, after_write, noted_so_far, extent_of, flushed_by, run_operate}
 use Rattle.run_step.proofs.Laws.{plain, finished}
 use borrow.Author.Rules.{rules}
 use Rattle.run_step.proofs.operate.Statement.{statement}
@@ -139,12 +139,12 @@ same-length-2 : tie.Need-same-length-2
 same-length-2 c = search rules
 
 returns : tie.Need-returns
-unfolding runOperate operate extentOf flushedBy read_step writeStep fetchStep
+unfolding run_operate operate extent_of flushed_by read_step write_step fetch_step
 returns c = let x = c.before.before.before in let z = x.before.before.before in let e = z.before in let a = e.before.before.before.before.args in
     regive _ _ _ _ _
-    (ap (λ (y : Access). notedSoFar oldWindow noPage (readFrom y z.type_size.result a.r a.m.now a.t.now) a.t.now) x.access-at.ensures.same
-    ∙ ap (λ (s : Size). notedSoFar oldWindow noPage (readFrom (accessAt a.r a.m.now a.t.now ToRead s a.o.a) s a.r a.m.now a.t.now) a.t.now) z.type_size.ensures.same
-    ∙ sym (ap (λ (w : Kind). runOperate w a.o a.r a.m.now a.t.now) e.enum_told.given.1)) c.read-from.ensures
+    (ap (λ (y : Access). noted_so_far old_window no_page (read_from y z.type_size.result a.r a.m.now a.t.now) a.t.now) x.access-at.ensures.same
+    ∙ ap (λ (s : Size). noted_so_far old_window no_page (read_from (access_at a.r a.m.now a.t.now ToRead s a.o.a) s a.r a.m.now a.t.now) a.t.now) z.type_size.ensures.same
+    ∙ sym (ap (λ (w : Kind). run_operate w a.o a.r a.m.now a.t.now) e.enum_told.given.1)) c.read-from.ensures
 
 same-length-3 : tie.Need-same-length-3
 same-length-3 c = search rules
@@ -153,12 +153,12 @@ same-length-4 : tie.Need-same-length-4
 same-length-4 c = search rules
 
 returns-2 : tie.Need-returns-2
-unfolding runOperate operate extentOf flushedBy read_step writeStep fetchStep
+unfolding run_operate operate extent_of flushed_by read_step write_step fetch_step
 returns-2 c = let k = c.before.before.before.before in let x = k.before.before.before in let z = x.before.before.before in let e = z.before in let a = e.before.before.before.before.args in
     regive _ _ _ _ _
-    (ap (λ (y : Access). notedSoFar oldWindow (afterWrite oldWindow y z.size-of2.result (tables_of a.r) a.m.now) (writeTo y z.size-of2.result a.o.c a.r a.m.now a.t.now) a.t.now) x.access-at2.ensures.same
-    ∙ ap (λ (s : Size). notedSoFar oldWindow (afterWrite oldWindow (accessAt a.r a.m.now a.t.now ToWrite s a.o.a) s (tables_of a.r) a.m.now) (writeTo (accessAt a.r a.m.now a.t.now ToWrite s a.o.a) s a.o.c a.r a.m.now a.t.now) a.t.now) z.size-of2.ensures.same
-    ∙ sym (ap (λ (w : Kind). runOperate w a.o a.r a.m.now a.t.now) e.enum-told2.given.1)) k.write-to.ensures
+    (ap (λ (y : Access). noted_so_far old_window (after_write old_window y z.size-of2.result (tables_of a.r) a.m.now) (write_to y z.size-of2.result a.o.c a.r a.m.now a.t.now) a.t.now) x.access-at2.ensures.same
+    ∙ ap (λ (s : Size). noted_so_far old_window (after_write old_window (access_at a.r a.m.now a.t.now ToWrite s a.o.a) s (tables_of a.r) a.m.now) (write_to (access_at a.r a.m.now a.t.now ToWrite s a.o.a) s a.o.c a.r a.m.now a.t.now) a.t.now) z.size-of2.ensures.same
+    ∙ sym (ap (λ (w : Kind). run_operate w a.o a.r a.m.now a.t.now) e.enum-told2.given.1)) k.write-to.ensures
 
 same-length-5 : tie.Need-same-length-5
 same-length-5 c = search rules
@@ -167,10 +167,10 @@ same-length-6 : tie.Need-same-length-6
 same-length-6 c = search rules
 
 returns-3 : tie.Need-returns-3
-unfolding runOperate operate extentOf flushedBy read_step writeStep fetchStep
+unfolding run_operate operate extent_of flushed_by read_step write_step fetch_step
 returns-3 c = let k = c.before.before.before.before in let e = k.before.before.before in let a = e.before.before.before.before.args in
     regive _ _ _ _ _ (ap (λ (w : Kind). operate w a.o a.r a.m.now a.t.now) e.enum-told3.given.1
-    ∙ sym (ap (λ (w : Kind). runOperate w a.o a.r a.m.now a.t.now) e.enum-told3.given.1)) k.carry-out.ensures
+    ∙ sym (ap (λ (w : Kind). run_operate w a.o a.r a.m.now a.t.now) e.enum-told3.given.1)) k.carry-out.ensures
 
 same-length-7 : tie.Need-same-length-7
 same-length-7 c = search rules
@@ -179,16 +179,16 @@ same-length-8 : tie.Need-same-length-8
 same-length-8 c = search rules
 
 returns-4 : tie.Need-returns-4
-unfolding runOperate operate extentOf flushedBy read_step writeStep fetchStep
+unfolding run_operate operate extent_of flushed_by read_step write_step fetch_step
 returns-4 c = let k = c.before.before.before.before in let e = k.before.before.before in let a = e.before.before.before.before.args in
     regive _ _ _ _ _ (ap (λ (w : Kind). operate w a.o a.r a.m.now a.t.now) e.enum-told4.given.1
-    ∙ sym (ap (λ (w : Kind). runOperate w a.o a.r a.m.now a.t.now) e.enum-told4.given.1)) k.carry-out2.ensures
+    ∙ sym (ap (λ (w : Kind). run_operate w a.o a.r a.m.now a.t.now) e.enum-told4.given.1)) k.carry-out2.ensures
 
 returns-5 : tie.Need-returns-5
-unfolding runOperate operate extentOf flushedBy read_step writeStep fetchStep
+unfolding run_operate operate extent_of flushed_by read_step write_step fetch_step
 returns-5 c = let w = c.before in let e = w.before in let a = e.before.before.before.before.args in
     finished _ _ _ _ _ c.done.ensures (ap (λ (q : Registers). plain (Done 0) q a.m.now a.t.now) w.with_mode.ensures
-    ∙ sym (ap (λ (w : Kind). runOperate w a.o a.r a.m.now a.t.now) e.enum-told5.given.1))
+    ∙ sym (ap (λ (w : Kind). run_operate w a.o a.r a.m.now a.t.now) e.enum-told5.given.1))
 
 same-length-9 : tie.Need-same-length-9
 same-length-9 c = search rules
@@ -197,10 +197,10 @@ same-length-10 : tie.Need-same-length-10
 same-length-10 c = search rules
 
 returns-6 : tie.Need-returns-6
-unfolding runOperate operate extentOf flushedBy read_step writeStep fetchStep
+unfolding run_operate operate extent_of flushed_by read_step write_step fetch_step
 returns-6 c = let k = c.before.before.before.before in let e = k.before.before.before in let a = e.before.before.before.before.args in
     regive _ _ _ _ _ (ap (λ (w : Kind). operate w a.o a.r a.m.now a.t.now) e.enum-told6.given.1
-    ∙ sym (ap (λ (w : Kind). runOperate w a.o a.r a.m.now a.t.now) e.enum-told6.given.1)) k.carry-out3.ensures
+    ∙ sym (ap (λ (w : Kind). run_operate w a.o a.r a.m.now a.t.now) e.enum-told6.given.1)) k.carry-out3.ensures
 
 same-length-11 : tie.Need-same-length-11
 same-length-11 c = search rules
@@ -209,10 +209,10 @@ same-length-12 : tie.Need-same-length-12
 same-length-12 c = search rules
 
 returns-7 : tie.Need-returns-7
-unfolding runOperate operate extentOf flushedBy read_step writeStep fetchStep
+unfolding run_operate operate extent_of flushed_by read_step write_step fetch_step
 returns-7 c = let f = c.before.before.before in let e = f.before.before.before.before in let a = e.before.before.before.before.args in
     finished _ _ _ _ _ c.done2.ensures (ap (λ (l : List ℕ). plain (Done 0) a.r a.m.now l) f.flush-page.ensures
-    ∙ sym (ap (λ (w : Kind). runOperate w a.o a.r a.m.now a.t.now) e.enum-told7.given.1))
+    ∙ sym (ap (λ (w : Kind). run_operate w a.o a.r a.m.now a.t.now) e.enum-told7.given.1))
 
 same-length-13 : tie.Need-same-length-13
 same-length-13 c = search rules
@@ -221,10 +221,10 @@ same-length-14 : tie.Need-same-length-14
 same-length-14 c = search rules
 
 returns-8 : tie.Need-returns-8
-unfolding runOperate operate extentOf flushedBy read_step writeStep fetchStep
+unfolding run_operate operate extent_of flushed_by read_step write_step fetch_step
 returns-8 c = let f = c.before.before.before in let e = f.before.before.before in let a = e.before.before.before.before.args in
     finished _ _ _ _ _ c.done3.ensures (ap (λ (l : List ℕ). plain (Done 0) a.r a.m.now l) f.flush-context.ensures
-    ∙ sym (ap (λ (w : Kind). runOperate w a.o a.r a.m.now a.t.now) e.enum-told8.given.1))
+    ∙ sym (ap (λ (w : Kind). run_operate w a.o a.r a.m.now a.t.now) e.enum-told8.given.1))
 
 same-length-15 : tie.Need-same-length-15
 same-length-15 c = search rules
@@ -233,10 +233,10 @@ same-length-16 : tie.Need-same-length-16
 same-length-16 c = search rules
 
 returns-9 : tie.Need-returns-9
-unfolding runOperate operate extentOf flushedBy read_step writeStep fetchStep
+unfolding run_operate operate extent_of flushed_by read_step write_step fetch_step
 returns-9 c = let f = c.before.before.before in let e = f.before.before.before.before in let a = e.before.before.before.before.args in
     finished _ _ _ _ _ c.done4.ensures (ap (λ (l : List ℕ). plain (Done 0) a.r a.m.now l) f.flush-page-in.ensures
-    ∙ sym (ap (λ (w : Kind). runOperate w a.o a.r a.m.now a.t.now) e.enum-told9.given.1))
+    ∙ sym (ap (λ (w : Kind). run_operate w a.o a.r a.m.now a.t.now) e.enum-told9.given.1))
 
 same-length-17 : tie.Need-same-length-17
 same-length-17 c = search rules
@@ -245,17 +245,17 @@ same-length-18 : tie.Need-same-length-18
 same-length-18 c = search rules
 
 returns-10 : tie.Need-returns-10
-unfolding runOperate operate extentOf flushedBy read_step writeStep fetchStep
+unfolding run_operate operate extent_of flushed_by read_step write_step fetch_step
 returns-10 c = let x = c.before.before.before in let e = x.before.before.before in let a = e.before.before.before.before.args in
     regive _ _ _ _ _
-    (ap (λ (y : Access). notedSoFar oldWindow noPage (readFrom y Four a.r a.m.now a.t.now) a.t.now) x.access-at3.ensures.same
-    ∙ sym (ap (λ (w : Kind). runOperate w a.o a.r a.m.now a.t.now) e.enum-told10.given.1)) c.read-from2.ensures
+    (ap (λ (y : Access). noted_so_far old_window no_page (read_from y Four a.r a.m.now a.t.now) a.t.now) x.access-at3.ensures.same
+    ∙ sym (ap (λ (w : Kind). run_operate w a.o a.r a.m.now a.t.now) e.enum-told10.given.1)) c.read-from2.ensures
 
 returns-11 : tie.Need-returns-11
-unfolding runOperate operate extentOf flushedBy read_step writeStep fetchStep
+unfolding run_operate operate extent_of flushed_by read_step write_step fetch_step
 returns-11 c = let w = c.before in let e = w.before in let a = e.before.before.before.before.args in
     finished _ _ _ _ _ c.done5.ensures (ap (λ (q : Registers). plain (Done 0) q a.m.now a.t.now) w.with-domains.ensures
-    ∙ sym (ap (λ (w : Kind). runOperate w a.o a.r a.m.now a.t.now) e.enum-told11.given.1))
+    ∙ sym (ap (λ (w : Kind). run_operate w a.o a.r a.m.now a.t.now) e.enum-told11.given.1))
 
 pub operate-spec : {M : Type 1} → statement M
 operate-spec =

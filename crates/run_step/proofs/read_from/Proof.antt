@@ -1,10 +1,10 @@
 use Prim.Native.Nat.{ℕ}
 use mathlib.Core.Path.{◌≡◌, refl, sym, ap, ap₂, ◌∙◌}
-use Rattle.model.specs.Limits.{oldWindow}
+use Rattle.model.specs.Limits.{old_window}
 use Rattle.model.specs.declared.Access.{Access}
 use Rattle.model.specs.declared.Answer.TheVariants.{Done}
-use Rattle.model.specs.step.Machine.{readFrom, value_of}
-use Rattle.runs.specs.Step.{noPage, notedSoFar}
+use Rattle.model.specs.step.Machine.{read_from, value_of}
+use Rattle.runs.specs.Step.{no_page, noted_so_far}
 use Rattle.run_step.proofs.Laws.{plain, left}
 use borrow.Author.Rules.{rules}
 use Rattle.run_step.proofs.read_from.Statement.{statement}
@@ -31,17 +31,17 @@ value-of-requires c κs = search rules
 
 returns : tie.Need-returns
 returns c = let a = c.before.before.before.before.args in
-    left _ _ _ _ _ (sym (ap (λ (z : Access). notedSoFar oldWindow noPage (readFrom z a.size a.r a.m.now a.t.now) a.t.now) c.enum_told.given.1))
+    left _ _ _ _ _ (sym (ap (λ (z : Access). noted_so_far old_window no_page (read_from z a.size a.r a.m.now a.t.now) a.t.now) c.enum_told.given.1))
 
 returns-2 : tie.Need-returns-2
 returns-2 c = let x = c.before in let a = x.before.before.before.before.args in
-    left _ _ _ _ _ (sym (ap (λ (z : Access). notedSoFar oldWindow noPage (readFrom z a.size a.r a.m.now a.t.now) a.t.now) x.x.given.1))
+    left _ _ _ _ _ (sym (ap (λ (z : Access). noted_so_far old_window no_page (read_from z a.size a.r a.m.now a.t.now) a.t.now) x.x.given.1))
 
 returns-3 : tie.Need-returns-3
 returns-3 c = let l = c.before in let x = l.before.before in let a = x.before.before.before.before.args in
     left _ _ _ _ _
     (ap (λ (n : ℕ). plain (Done n) a.r a.m.now a.t.now) (c.value_of_lem.ensures ∙ ap value_of l.load.ensures)
-    ∙ sym (ap (λ (z : Access). notedSoFar oldWindow noPage (readFrom z a.size a.r a.m.now a.t.now) a.t.now) x.x2.given.1))
+    ∙ sym (ap (λ (z : Access). noted_so_far old_window no_page (read_from z a.size a.r a.m.now a.t.now) a.t.now) x.x2.given.1))
 
 pub read-from-spec : {M : Type 1} → statement M
 read-from-spec =

@@ -1,4 +1,4 @@
-use Rattle.model.specs.Limits.{oldWindow}
+use Rattle.model.specs.Limits.{old_window}
 use Rattle.model.specs.step.Machine.{tables_of}
 use Rattle.run_step.proofs.Laws.{kept, noted}
 use borrow.Author.Rules.{rules}
@@ -21,7 +21,7 @@ same_length c = search rules
 
 returns : tie.Need-returns
 returns c = let s = c.before.before in let i = s.before.before in let q = i.before in let a = q.before.before.before.before.args in
-    (s.store.ensures.1, kept oldWindow _ a.t.now (tables_of a.r) a.r.context q.is-quiet.ensures i.if1.true)
+    (s.store.ensures.1, kept old_window _ a.t.now (tables_of a.r) a.r.context q.is-quiet.ensures i.if1.true)
 
 store-and-note-requires : tie.Need-store-and-note-requires
 store-and-note-requires c κs = search rules
@@ -35,7 +35,7 @@ same-length-3 c = search rules
 returns-2 : tie.Need-returns-2
 returns-2 c = let s = c.before.before.before.before in let i = s.before.before.before in let q = i.before in let a = q.before.before.before.before.args in (
   s.store-and-note.ensures.0,
-  noted oldWindow _ a.t.now _ (tables_of a.r) a.r.context q.is-quiet.ensures i.if1.false s.store-and-note.ensures.1,
+  noted old_window _ a.t.now _ (tables_of a.r) a.r.context q.is-quiet.ensures i.if1.false s.store-and-note.ensures.1,
 )
 
 pub store_spec : {M : Type 1} → statement M

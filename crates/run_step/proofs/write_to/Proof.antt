@@ -1,9 +1,9 @@
 use mathlib.Core.Path.{◌≡◌, refl, sym, ap, ap₂, ◌∙◌}
-use Rattle.model.specs.Limits.{oldWindow}
+use Rattle.model.specs.Limits.{old_window}
 use Rattle.model.specs.declared.Access.{Access}
-use Rattle.model.specs.step.Machine.{tables_of, writeTo}
+use Rattle.model.specs.step.Machine.{tables_of, write_to}
 use Rattle.transfer.proofs.Laws.{regive}
-use Rattle.runs.specs.Step.{afterWrite, notedSoFar}
+use Rattle.runs.specs.Step.{after_write, noted_so_far}
 use Rattle.run_step.proofs.Laws.{left, stored}
 use borrow.Author.Rules.{rules}
 use Rattle.run_step.proofs.write_to.Statement.{statement}
@@ -26,11 +26,11 @@ store-requires c κs = search rules
 
 returns : tie.Need-returns
 returns c = let a = c.before.before.before.before.args in
-    left _ _ _ _ _ (sym (ap (λ (z : Access). notedSoFar oldWindow (afterWrite oldWindow z a.size (tables_of a.r) a.m.now) (writeTo z a.size a.v a.r a.m.now a.t.now) a.t.now) c.enum_told.given.1))
+    left _ _ _ _ _ (sym (ap (λ (z : Access). noted_so_far old_window (after_write old_window z a.size (tables_of a.r) a.m.now) (write_to z a.size a.v a.r a.m.now a.t.now) a.t.now) c.enum_told.given.1))
 
 returns-2 : tie.Need-returns-2
 returns-2 c = let x = c.before in let a = x.before.before.before.before.args in
-    left _ _ _ _ _ (sym (ap (λ (z : Access). notedSoFar oldWindow (afterWrite oldWindow z a.size (tables_of a.r) a.m.now) (writeTo z a.size a.v a.r a.m.now a.t.now) a.t.now) x.x.given.1))
+    left _ _ _ _ _ (sym (ap (λ (z : Access). noted_so_far old_window (after_write old_window z a.size (tables_of a.r) a.m.now) (write_to z a.size a.v a.r a.m.now a.t.now) a.t.now) x.x.given.1))
 
 same_length : tie.Need-same-length
 same_length c = search rules
@@ -40,7 +40,7 @@ same-length-2 c = search rules
 
 returns-3 : tie.Need-returns-3
 returns-3 c = let s = c.before.before.before.before in let x = s.before.before.before.before in let a = x.before.before.before.before.args in
-    regive _ _ _ _ _ (sym (ap (λ (z : Access). notedSoFar oldWindow (afterWrite oldWindow z a.size (tables_of a.r) a.m.now) (writeTo z a.size a.v a.r a.m.now a.t.now) a.t.now) x.x2.given.1))
+    regive _ _ _ _ _ (sym (ap (λ (z : Access). noted_so_far old_window (after_write old_window z a.size (tables_of a.r) a.m.now) (write_to z a.size a.v a.r a.m.now a.t.now) a.t.now) x.x2.given.1))
     (stored a.size _ a.v a.r a.m.now a.t.now _ _ s.store.ensures.0 s.store.ensures.1)
 
 pub write-to-spec : {M : Type 1} → statement M

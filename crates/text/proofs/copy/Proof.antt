@@ -4,7 +4,7 @@ use native.Mathlib.Omega.{arith}
 use native.Mathlib.Numerals.{add-one}
 use lib.ListN.{length, length-set}
 use lib.Seq.{paste, paste-zero, paste-suc}
-use Rattle.text.proofs.PutLaws.{over-paste}
+use Rattle.text.proofs.PutLaws.{over_paste}
 use Rattle.text.proofs.copy.Statement.{statement}
 use Rattle.text.proofs.copy.Tie as tie
 use Rattle.text.proofs.copy.Reads as reads
@@ -55,7 +55,7 @@ returns c =
     let a = c.before.before.args in
     let e : c.before.loop.i ≡ length a.text.now = omega arith in (
       ap (λ (k : ℕ). a.at + k) e,
-      c.before.loop.invariant.2 ∙ rw e (over-paste a.out.now a.at a.text.now),
+      c.before.loop.invariant.2 ∙ rw e (over_paste a.out.now a.at a.text.now),
     )
 
 pub copy_spec : {M : Type 1} → statement M

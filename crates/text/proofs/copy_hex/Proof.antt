@@ -1,12 +1,12 @@
 use lib.ListN.{length, length-set, drop, take, set}
-use Rattle.text.proofs.HexPut.{spelled-part}
-use Rattle.text.proofs.HexLaws.{hex-length}
+use Rattle.text.proofs.HexPut.{spelled_part}
+use Rattle.text.proofs.HexLaws.{hex_length}
 use Prim.Native.Nat.{ℕ, suc, ◌+◌, ◌-◌, ◌≤◌, ◌<◌, ◌^◌}
 use mathlib.Core.Path.{◌≡◌, refl, sym, ap, ◌∙◌}
 use native.Mathlib.Omega.{arith}
 use borrow.Author.Rules.{rules}
-use Rattle.text.specs.Hex.{hexOf, spell}
-use Rattle.text.proofs.HexPut.{spell-turn, bound-turn, more-turns}
+use Rattle.text.specs.Hex.{hex_of, spell}
+use Rattle.text.proofs.HexPut.{spell_turn, bound_turn, more_turns}
 use Rattle.text.proofs.copy_hex.Statement.{statement}
 use Rattle.text.proofs.copy_hex.Tie as tie
 use Rattle.text.proofs.copy_hex.Reads as reads
@@ -15,13 +15,13 @@ use Rattle.text.proofs.glyph.Reads as glyph-reads
 use Rattle.text.proofs.copy.Reads as copy-reads
 
 abbrev invariant-loop : tie.invariant-loop
-invariant-loop out at n buf₀ i₀ v₀ buf i v = (1 ≤ i) × (i ≤ 8) × (length buf ≡ 8) × (v < 16 ^ i) × (hexOf n ≡ spell i v (drop i buf))
+invariant-loop out at n buf₀ i₀ v₀ buf i v = (1 ≤ i) × (i ≤ 8) × (length buf ≡ 8) × (v < 16 ^ i) × (hex_of n ≡ spell i v (drop i buf))
 
 abbrev decreases-loop : tie.decreases-loop
 decreases-loop out at n buf₀ i₀ v₀ buf i v = v
 
 loop-holds : tie.Need-loop-init invariant-loop decreases-loop
-unfolding hexOf
+unfolding hex_of
 loop-holds c = (omega arith, omega arith, refl, c.before.ranges.n.fits, refl)
 
 sub-i : tie.Need-overflow-sub-i invariant-loop decreases-loop
@@ -44,11 +44,11 @@ loop-again c =
     let buf = at-loop.loop.buf in
     let e : i ≡ suc (i - 1) = omega arith in
     let h : i - 1 < length buf = omega arith in (
-      more-turns i (i - 1) v buf e h (omega arith) (omega arith),
+      more_turns i (i - 1) v buf e h (omega arith) (omega arith),
       omega arith,
       simp length-set at-loop.loop.invariant.2,
-      bound-turn i (i - 1) v buf e h (omega arith),
-      at-loop.loop.invariant.4 ∙ rw c.glyph.ensures (spell-turn i (i - 1) v buf e h (omega arith)),
+      bound_turn i (i - 1) v buf e h (omega arith),
+      at-loop.loop.invariant.4 ∙ rw c.glyph.ensures (spell_turn i (i - 1) v buf e h (omega arith)),
     )
 
 sub-i-2 : tie.Need-overflow-sub-i-2 invariant-loop decreases-loop
@@ -67,11 +67,11 @@ part-copy-start : tie.Need-slice-bounds-copy-start invariant-loop decreases-loop
 part-copy-start c = omega arith
 
 -- the part of the buffer that is handed to `put` is the number's text
-written : (c : tie.After-copy-arg2 invariant-loop decreases-loop) → take (8 - (c.before.before.before.before.before.loop.i - 1)) (drop (c.before.before.before.before.before.loop.i - 1) (set c.before.before.before.before.before.loop.buf (c.before.before.before.before.before.loop.i - 1) c.before.before.before.glyph2.result)) ≡ hexOf c.before.before.before.before.before.before.before.args.n
+written : (c : tie.After-copy-arg2 invariant-loop decreases-loop) → take (8 - (c.before.before.before.before.before.loop.i - 1)) (drop (c.before.before.before.before.before.loop.i - 1) (set c.before.before.before.before.before.loop.buf (c.before.before.before.before.before.loop.i - 1) c.before.before.before.glyph2.result)) ≡ hex_of c.before.before.before.before.before.before.before.args.n
 written c =
     let at-loop = c.before.before.before.before.before in
     let i = at-loop.loop.i in
-    spelled-part at-loop.before.before.args.n i at-loop.loop.v c.before.before.before.glyph2.result at-loop.loop.buf (i - 1) (omega arith) (omega arith) at-loop.loop.invariant.2 (omega arith) c.before.before.before.glyph2.ensures at-loop.loop.invariant.4
+    spelled_part at-loop.before.before.args.n i at-loop.loop.v c.before.before.before.glyph2.result at-loop.loop.buf (i - 1) (omega arith) (omega arith) at-loop.loop.invariant.2 (omega arith) c.before.before.before.glyph2.ensures at-loop.loop.invariant.4
 
 part-copy-end : tie.Need-slice-bounds-copy-end invariant-loop decreases-loop
 part-copy-end c =
@@ -80,7 +80,7 @@ part-copy-end c =
     h
 
 copy-requires : tie.Need-copy-requires invariant-loop decreases-loop
-copy-requires c κs = rw (written c) (omega (arith, hex-length c.before.before.before.before.before.before.before.args.n))
+copy-requires c κs = rw (written c) (omega (arith, hex_length c.before.before.before.before.before.before.before.args.n))
 
 same_length : tie.Need-same-length invariant-loop decreases-loop
 same_length c = search rules

@@ -1,7 +1,7 @@
 use native.Mathlib.Omega.{arith}
 use mathlib.Core.Path.{sym, ◌∙◌}
 use Rattle.text.specs.Hex.{between, digit}
-use Rattle.text.proofs.HexLaws.{between-low}
+use Rattle.text.proofs.HexLaws.{between_low}
 use borrow.Author.Rules.{rules}
 use Rattle.text.proofs.digit.Statement.{statement}
 use Rattle.text.proofs.digit.Tie as tie
@@ -13,7 +13,7 @@ between-requires : tie.Need-between-requires
 between-requires c κs = search rules
 
 sub-result : tie.Need-overflow-sub-result
-sub-result c = between-low 48 57 c.before.before.args.x (sym c.before.between.ensures ∙ c.if1.true)
+sub-result c = between_low 48 57 c.before.before.args.x (sym c.before.between.ensures ∙ c.if1.true)
 
 returns : tie.Need-returns
 unfolding digit
@@ -23,7 +23,7 @@ between-requires-2 : tie.Need-between-requires-2
 between-requires-2 c κs = search rules
 
 sub-result-2 : tie.Need-overflow-sub-result-2
-sub-result-2 c = omega (arith, between-low 97 102 c.before.before.before.before.args.x (sym c.before.between2.ensures ∙ c.if2.true))
+sub-result-2 c = omega (arith, between_low 97 102 c.before.before.before.before.args.x (sym c.before.between2.ensures ∙ c.if2.true))
 
 returns-2 : tie.Need-returns-2
 unfolding digit

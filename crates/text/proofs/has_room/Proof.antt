@@ -3,8 +3,8 @@ use mathlib.Core.Bool.{false}
 use native.Mathlib.Omega.{arith}
 use lib.ListN.{length}
 use borrow.Author.Tests.{lt-leb}
-use Rattle.text.specs.Put.{hasRoom}
-use Rattle.text.proofs.PutLaws.{room-test}
+use Rattle.text.specs.Put.{has_room}
+use Rattle.text.proofs.PutLaws.{room_test}
 use borrow.Author.Rules.{rules}
 use Rattle.text.proofs.has_room.Statement.{statement}
 use Rattle.text.proofs.has_room.Tie as tie
@@ -12,15 +12,15 @@ use Rattle.text.proofs.has_room.Reads as reads
 use Rattle.text.proofs.has_room.Lts as lts
 
 returns : tie.Need-returns
-unfolding hasRoom
+unfolding has_room
 returns c = let a = c.before.args in sym (lt-leb _ (length a.out.now) (omega arith))
 
 sub-result : tie.Need-overflow-sub-result
 sub-result c = search rules
 
 returns-2 : tie.Need-returns-2
-unfolding hasRoom
-returns-2 c = let a = c.before.args in room-test a.at a.room (length a.out.now) (omega arith)
+unfolding has_room
+returns-2 c = let a = c.before.args in room_test a.at a.room (length a.out.now) (omega arith)
 
 pub has-room-spec : {M : Type 1} → statement M
 has-room-spec = tie.close (tie.spec returns sub-result returns-2)

@@ -1,6 +1,6 @@
 use mathlib.Core.Path.{sym, ◌∙◌}
 use lib.ListN.{length}
-use Rattle.text.proofs.PutLaws.{room-left, wrote-yes, wrote-no}
+use Rattle.text.proofs.PutLaws.{room_left, wrote_yes, wrote_no}
 use borrow.Author.Rules.{rules}
 use Rattle.text.proofs.put.Statement.{statement}
 use Rattle.text.proofs.put.Tie as tie
@@ -14,21 +14,21 @@ has-room-requires c κs = search rules
 
 copy-requires : tie.Need-copy-requires
 copy-requires c κs = let i = c.before in let h = i.before in let a = h.before.before.before.before.args in
-    room-left (length a.text.now) a.out.now a.at a.text.now (sym h.has_room.ensures ∙ i.if1.true)
+    room_left (length a.text.now) a.out.now a.at a.text.now (sym h.has_room.ensures ∙ i.if1.true)
 
 same_length : tie.Need-same-length
 same_length c = search rules
 
 returns : tie.Need-returns
 returns c = let k = c.before.before in let i = k.before.before in let h = i.before in let a = h.before.before.before.before.args in
-    wrote-yes (length a.text.now) a.out.now a.at a.text.now _ _ (sym h.has_room.ensures ∙ i.if1.true) k.copy.ensures
+    wrote_yes (length a.text.now) a.out.now a.at a.text.now _ _ (sym h.has_room.ensures ∙ i.if1.true) k.copy.ensures
 
 same-length-2 : tie.Need-same-length-2
 same-length-2 c = search rules
 
 returns-2 : tie.Need-returns-2
 returns-2 c = let h = c.before in let a = h.before.before.before.before.args in
-    wrote-no (length a.text.now) a.out.now a.at a.text.now (sym h.has_room.ensures ∙ c.if1.false)
+    wrote_no (length a.text.now) a.out.now a.at a.text.now (sym h.has_room.ensures ∙ c.if1.false)
 
 pub put_spec : {M : Type 1} → statement M
 put_spec =

@@ -1,7 +1,7 @@
 use mathlib.Core.Path.{sym, ◌∙◌}
 use native.Mathlib.Omega.{arith}
 use lib.Seq.{length-take-le}
-use Rattle.line_reader.proofs.Front.{file-told-fits}
+use Rattle.line_reader.proofs.Front.{file_told_fits}
 use borrow.Author.Rules.{rules}
 use Rattle.to_image.proofs.print_image.Statement.{statement}
 use Rattle.to_image.proofs.print_image.Tie as tie
@@ -20,13 +20,13 @@ enum-known-size c = search rules
 slice-reshare-prefix-write-all : tie.Need-slice-reshare-prefix-write-all
 slice-reshare-prefix-write-all c =
     let w = c.before.before.before.before.before in
-    let e = file-told-fits _ _ c.before.size.given.0.0 (sym w.finish-file.ensures.0 ∙ c.before.size.given.1) in
+    let e = file_told_fits _ _ c.before.size.given.0.0 (sym w.finish-file.ensures.0 ∙ c.before.size.given.1) in
     omega (arith, e, w.finish-file.auto.1.0)
 
 slice-aggregate-write-all : tie.Need-slice-aggregate-write-all
 slice-aggregate-write-all c =
     let w = c.before.before.before.before.before.before in
-    let e = file-told-fits _ _ c.before.before.size.given.0.0 (sym w.finish-file.ensures.0 ∙ c.before.before.size.given.1) in
+    let e = file_told_fits _ _ c.before.before.size.given.0.0 (sym w.finish-file.ensures.0 ∙ c.before.before.size.given.1) in
     sym (length-take-le _ _ (omega (arith, e, w.finish-file.auto.1.0)))
 
 write-all-requires : tie.Need-write-all-requires

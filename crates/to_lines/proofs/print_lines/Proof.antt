@@ -1,7 +1,7 @@
 use mathlib.Core.Path.{sym, ◌∙◌}
 use native.Mathlib.Omega.{arith}
 use lib.Seq.{length-take-le}
-use Rattle.line_writer.proofs.Front.{told-fits}
+use Rattle.line_writer.proofs.Front.{told_fits}
 use borrow.Author.Rules.{rules}
 use Rattle.to_lines.proofs.print_lines.Statement.{statement}
 use Rattle.to_lines.proofs.print_lines.Tie as tie
@@ -27,13 +27,13 @@ enum-known-size c = search rules
 array-share-prefix-out : tie.Need-array-share-prefix-out
 array-share-prefix-out c =
     let w = c.before.before.before.before in
-    let e = told-fits _ _ _ _ c.before.size.given.0.0 (sym w.write-file-lines.ensures.0 ∙ c.before.size.given.1) in
+    let e = told_fits _ _ _ _ c.before.size.given.0.0 (sym w.write-file-lines.ensures.0 ∙ c.before.size.given.1) in
     omega (arith, e, w.write-file-lines.auto.1.1.0)
 
 slice-aggregate-write-all : tie.Need-slice-aggregate-write-all
 slice-aggregate-write-all c =
     let w = c.before.before.before.before.before in
-    let e = told-fits _ _ _ _ c.before.before.size.given.0.0 (sym w.write-file-lines.ensures.0 ∙ c.before.before.size.given.1) in
+    let e = told_fits _ _ _ _ c.before.before.size.given.0.0 (sym w.write-file-lines.ensures.0 ∙ c.before.before.size.given.1) in
     sym (length-take-le _ _ (omega (arith, e, w.write-file-lines.auto.1.1.0)))
 
 write-all-requires : tie.Need-write-all-requires

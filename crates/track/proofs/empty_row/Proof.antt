@@ -1,19 +1,19 @@
 use Prim.Native.Nat.{ℕ, ◌≤◌, ◌-◌, zero-le}
 use native.Mathlib.Nat.{le_antisymm}
 use lib.ListN.{length, length-set}
-use Rattle.model.specs.step.Rows.{mapFirst}
+use Rattle.model.specs.step.Rows.{map_first}
 use Rattle.track.proofs.Rows.{turn}
 use borrow.Author.Rules.{rules}
 use native.Mathlib.Omega.{arith}
 use mathlib.Core.Path.{◌≡◌, refl, ap, sym, ◌∙◌}
-use Rattle.track.proofs.Rows.{all-turns}
+use Rattle.track.proofs.Rows.{all_turns}
 use Rattle.track.proofs.empty_row.Statement.{statement}
 use Rattle.track.proofs.empty_row.Tie as tie
 use Rattle.track.proofs.empty_row.Reads as reads
 use Rattle.track.proofs.empty_row.Lts as lts
 
 abbrev invariant-loop : tie.invariant-loop
-invariant-loop row₀ page₀ row page = (page ≤ length row₀) × ((row ≡ mapFirst (λ (i w : ℕ). 0) 0 page row₀) × (length row ≡ length row₀))
+invariant-loop row₀ page₀ row page = (page ≤ length row₀) × ((row ≡ map_first (λ (i w : ℕ). 0) 0 page row₀) × (length row ≡ length row₀))
 
 abbrev decreases-loop : tie.decreases-loop
 decreases-loop row₀ page₀ row page = length row₀ - page
@@ -42,7 +42,7 @@ same_length c = c.before.loop.invariant.1.1
 
 returns : tie.Need-returns invariant-loop decreases-loop
 returns c = let l = c.before in
-    all-turns (λ (i w : ℕ). 0) l.before.args.row.now l.loop.row l.loop.p l.loop.invariant.1.0 (omega arith)
+    all_turns (λ (i w : ℕ). 0) l.before.args.row.now l.loop.row l.loop.p l.loop.invariant.1.0 (omega arith)
 
 pub empty-row-spec : {M : Type 1} → statement M
 empty-row-spec =

@@ -2,10 +2,10 @@ use mathlib.Core.Path.{refl}
 use native.Mathlib.Nat.{add-sub_cancel_left}
 use native.Mathlib.Omega.{arith}
 use lib.ListN.{length}
-use Rattle.model.specs.Limits.{rowSize}
-use Rattle.model.specs.step.Track.{emptyRow, flushContext}
+use Rattle.model.specs.Limits.{row_size}
+use Rattle.model.specs.step.Track.{empty_row, flush_context}
 use Rattle.limits.proofs.Sizes.{row_fits}
-use Rattle.track.proofs.Rows.{put-from, none-past}
+use Rattle.track.proofs.Rows.{put_from, none_past}
 use borrow.Author.Rules.{rules}
 use Rattle.track.proofs.flush_context.Statement.{statement}
 use Rattle.track.proofs.flush_context.Tie as tie
@@ -39,7 +39,7 @@ part-empty-row-start c = search rules
 
 part-empty-row-end : tie.Need-slice-bounds-empty-row-end
 part-empty-row-end c = let z = c.before in let i = z.before in let r = i.before in let a = r.before.before.args in
-    let room = row_fits (rowSize a.window) a.context (length a.track.now) _ _ _ i.if1.true r.rows.ensures.0 z.row-size.ensures.0 c.row-start.ensures.0 in
+    let room = row_fits (row_size a.window) a.context (length a.track.now) _ _ _ i.if1.true r.rows.ensures.0 z.row-size.ensures.0 c.row-start.ensures.0 in
     omega arith
 
 empty-row-requires : tie.Need-empty-row-requires
@@ -49,16 +49,16 @@ same_length : tie.Need-same-length
 same_length c = search rules
 
 returns : tie.Need-returns
-unfolding flushContext
+unfolding flush_context
 returns c = let s = c.before.before.before.before in let z = s.before in let i = z.before in let r = i.before in let a = r.before.before.args in
-    let room = row_fits (rowSize a.window) a.context (length a.track.now) _ _ _ i.if1.true r.rows.ensures.0 z.row-size.ensures.0 s.row-start.ensures.0 in
-    put-from emptyRow (rowSize a.window) a.context s.row-start.result z.row-size.result _ a.track.now _ s.row-start.ensures.0 z.row-size.ensures.0 room
+    let room = row_fits (row_size a.window) a.context (length a.track.now) _ _ _ i.if1.true r.rows.ensures.0 z.row-size.ensures.0 s.row-start.ensures.0 in
+    put_from empty_row (row_size a.window) a.context s.row-start.result z.row-size.result _ a.track.now _ s.row-start.ensures.0 z.row-size.ensures.0 room
     (add-sub_cancel_left s.row-start.result z.row-size.result) c.before.before.empty-row.ensures
 
 returns-2 : tie.Need-returns-2
-unfolding flushContext
+unfolding flush_context
 returns-2 c = let r = c.before in let a = r.before.before.args in
-    none-past emptyRow (rowSize a.window) a.context r.rows.result a.track.now refl r.rows.ensures.0 c.if1.false
+    none_past empty_row (row_size a.window) a.context r.rows.result a.track.now refl r.rows.ensures.0 c.if1.false
 
 pub flush-context-spec : {M : Type 1} → statement M
 flush-context-spec =

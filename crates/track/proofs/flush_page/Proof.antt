@@ -5,11 +5,11 @@ use native.Mathlib.Omega.{arith}
 use mathlib.Core.Path.{◌≡◌, refl, ap, sym, ◌∙◌}
 use lib.ListN.{length}
 use borrow.Author.Rules.{rules}
-use Rattle.model.specs.Limits.{rowSize}
-use Rattle.model.specs.step.Rows.{eachRow}
-use Rattle.model.specs.step.Track.{emptyPage, flushPage}
+use Rattle.model.specs.Limits.{row_size}
+use Rattle.model.specs.step.Rows.{each_row}
+use Rattle.model.specs.step.Track.{empty_page, flush_page}
 use Rattle.limits.proofs.Sizes.{row_room}
-use Rattle.track.proofs.Rows.{put-at, row-turn}
+use Rattle.track.proofs.Rows.{put_at, row_turn}
 use Rattle.track.proofs.flush_page.Statement.{statement}
 use Rattle.track.proofs.flush_page.Tie as tie
 use Rattle.track.proofs.flush_page.Reads as reads
@@ -21,7 +21,7 @@ use Rattle.track.proofs.empty_page.Reads as empty-page-reads
 -- row c starts at `start`, and those before it are done; each has room
 abbrev invariant-loop : tie.invariant-loop
 invariant-loop window track₀ page size k start₀ c₀ track start c =
-    (c ≤ k) × ((start ≡ c * size) × ((track ≡ eachRow (rowSize window) c (emptyPage page) track₀) × ((length track ≡ length track₀) × (c < k → start + size ≤ length track₀))))
+    (c ≤ k) × ((start ≡ c * size) × ((track ≡ each_row (row_size window) c (empty_page page) track₀) × ((length track ≡ length track₀) × (c < k → start + size ≤ length track₀))))
 
 abbrev decreases-loop : tie.decreases-loop
 decreases-loop window track₀ page size k start₀ c₀ track start c = k - c
@@ -33,9 +33,9 @@ rows-requires : tie.Need-rows-requires invariant-loop decreases-loop
 rows-requires c κs = search rules
 
 loop-holds : tie.Need-loop-init invariant-loop decreases-loop
-unfolding eachRow
+unfolding each_row
 loop-holds c = let r = c.before in
-    (zero-le, (sym (zero-mul r.row-size.result), (refl, (refl, λ h. row_room (rowSize r.before.before.args.window) c.rows.result 0 (length r.before.before.args.track.now) 0 r.row-size.result h c.rows.ensures.1 r.row-size.ensures.0 (sym (zero-mul r.row-size.result))))))
+    (zero-le, (sym (zero-mul r.row-size.result), (refl, (refl, λ h. row_room (row_size r.before.before.args.window) c.rows.result 0 (length r.before.before.args.track.now) 0 r.row-size.result h c.rows.ensures.1 r.row-size.ensures.0 (sym (zero-mul r.row-size.result))))))
 
 add-end : tie.Need-overflow-add-end invariant-loop decreases-loop
 add-end c = let room = c.before.loop.invariant.1.1.1.1 c.loop-test.true in let same = c.before.loop.invariant.1.1.1.0 in
@@ -70,16 +70,16 @@ loop-again c = let l = c.before.before.before.before.before in let r = l.before.
     let size : ℕ = r.row-size.result in
     let turn = l.loop.invariant.1 in let same = turn.1.1.0 in let here = turn.1.1.1 c.before.before.before.before.loop-test.true in
     let next : l.loop.start + size ≡ (l.loop.c + 1) * size = ap (λ (n : ℕ). n + size) turn.0 ∙ sym (suc-mul l.loop.c size) ∙ ap (λ (n : ℕ). n * size) (sym (add-one l.loop.c)) in
-    let place : l.loop.start ≡ l.loop.c * rowSize a.window = turn.0 ∙ ap (λ (s : ℕ). l.loop.c * s) r.row-size.ensures.0 in (
+    let place : l.loop.start ≡ l.loop.c * row_size a.window = turn.0 ∙ ap (λ (s : ℕ). l.loop.c * s) r.row-size.ensures.0 in (
       omega arith,
       (
         next,
         (
-          row-turn (emptyPage a.page) (rowSize a.window) l.loop.c a.track.now l.loop.track _ turn.1.0
-              (put-at (emptyPage a.page) (rowSize a.window) l.loop.c l.loop.start size _ l.loop.track _ place r.row-size.ensures.0 (rw same here) (add-sub_cancel_left l.loop.start size) e.empty-page.ensures),
+          row_turn (empty_page a.page) (row_size a.window) l.loop.c a.track.now l.loop.track _ turn.1.0
+              (put_at (empty_page a.page) (row_size a.window) l.loop.c l.loop.start size _ l.loop.track _ place r.row-size.ensures.0 (rw same here) (add-sub_cancel_left l.loop.start size) e.empty-page.ensures),
           (
             c.before.track.given.1 ∙ same,
-            λ h. row_room (rowSize a.window) l.before.rows.result (l.loop.c + 1) (length a.track.now) (l.loop.start + size) size h l.before.rows.ensures.1 r.row-size.ensures.0 next,
+            λ h. row_room (row_size a.window) l.before.rows.result (l.loop.c + 1) (length a.track.now) (l.loop.start + size) size h l.before.rows.ensures.1 r.row-size.ensures.0 next,
           ),
         ),
       ),
@@ -89,9 +89,9 @@ same_length : tie.Need-same-length invariant-loop decreases-loop
 same_length c = c.before.loop.invariant.1.1.1.0
 
 returns : tie.Need-returns invariant-loop decreases-loop
-unfolding flushPage
+unfolding flush_page
 returns c = let l = c.before in let a = l.before.before.before.before.args in
-    l.loop.invariant.1.1.0 ∙ ap (λ (n : ℕ). eachRow (rowSize a.window) n (emptyPage a.page) a.track.now) (le_antisymm l.loop.invariant.0 c.loop-test.false ∙ l.before.rows.ensures.0)
+    l.loop.invariant.1.1.0 ∙ ap (λ (n : ℕ). each_row (row_size a.window) n (empty_page a.page) a.track.now) (le_antisymm l.loop.invariant.0 c.loop-test.false ∙ l.before.rows.ensures.0)
 
 pub flush-page-spec : {M : Type 1} → statement M
 flush-page-spec =

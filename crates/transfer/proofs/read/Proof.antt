@@ -1,6 +1,6 @@
 use mathlib.Core.Path.{sym, ap, ap₂, ◌∙◌, refl}
 use Rattle.transfer.proofs.Laws.{regive, turned}
-use Rattle.model.specs.step.Machine.{After, carried, readFrom, writeTo, read_step, writeStep, operate, afterChecks, stepped, started, startedBy}
+use Rattle.model.specs.step.Machine.{After, carried, read_from, write_to, read_step, write_step, operate, after_checks, stepped, started, started_by}
 use Rattle.model.specs.declared.Access.{Access}
 use Rattle.model.specs.declared.Size.{Size}
 use Rattle.model.specs.declared.Kind.{Kind}
@@ -28,7 +28,7 @@ same_length c = search rules
 returns : tie.Need-returns
 unfolding read_step
 returns c = let k = c.before.before in let x = k.before.before in let a = x.before.before.before.before.args in
-    regive _ _ _ _ _ (ap (λ (z : Access). readFrom z a.size a.r a.m.now a.t.now) x.access-at.ensures.same) k.read-from.ensures
+    regive _ _ _ _ _ (ap (λ (z : Access). read_from z a.size a.r a.m.now a.t.now) x.access-at.ensures.same) k.read-from.ensures
 
 pub read_spec : {M : Type 1} → statement M
 read_spec = tie.close (tie.spec access-at-requires read-from-requires same_length returns)

@@ -1,6 +1,6 @@
 use mathlib.Core.Path.{sym, ap, ap₂, ◌∙◌, refl}
 use Rattle.transfer.proofs.Laws.{regive, turned}
-use Rattle.model.specs.step.Machine.{After, carried, readFrom, writeTo, read_step, writeStep, operate, afterChecks, stepped, started, startedBy, value_of}
+use Rattle.model.specs.step.Machine.{After, carried, read_from, write_to, read_step, write_step, operate, after_checks, stepped, started, started_by, value_of}
 use Rattle.model.specs.declared.Access.{Access}
 use Rattle.model.specs.declared.Answer.TheVariants.{Done}
 use Prim.Native.Nat.{ℕ}
@@ -37,14 +37,14 @@ carry-requires-2 c κs = search rules
 
 returns : tie.Need-returns
 returns c = let a = c.before.before.before.before.args in
-    turned _ _ _ _ _ (sym (ap (λ (z : Access). readFrom z a.size a.r a.m.now a.t.now) c.enum_told.given.1))
+    turned _ _ _ _ _ (sym (ap (λ (z : Access). read_from z a.size a.r a.m.now a.t.now) c.enum_told.given.1))
 
 same_length : tie.Need-same-length
 same_length c = search rules
 
 returns-2 : tie.Need-returns-2
 returns-2 c = let k = c.before.before in let x = k.before.before.before in let a = x.before.before.before.before.args in
-    regive _ _ _ _ _ (sym (ap (λ (z : Access). readFrom z a.size a.r a.m.now a.t.now) x.x.given.1)) k.carry.ensures
+    regive _ _ _ _ _ (sym (ap (λ (z : Access). read_from z a.size a.r a.m.now a.t.now) x.x.given.1)) k.carry.ensures
 
 same-length-2 : tie.Need-same-length-2
 same-length-2 c = search rules
@@ -53,7 +53,7 @@ returns-3 : tie.Need-returns-3
 returns-3 c = let k = c.before.before in let v = k.before.before in let l = v.before in let x = l.before.before in let a = x.before.before.before.before.args in
     regive _ _ _ _ _
     (ap (λ (n : ℕ). carried (Done n) a.r a.m.now a.t.now) (v.value_of_lem.ensures ∙ ap value_of l.load.ensures)
-    ∙ sym (ap (λ (z : Access). readFrom z a.size a.r a.m.now a.t.now) x.x2.given.1)) k.carry2.ensures
+    ∙ sym (ap (λ (z : Access). read_from z a.size a.r a.m.now a.t.now) x.x2.given.1)) k.carry2.ensures
 
 pub read-from-spec : {M : Type 1} → statement M
 read-from-spec =

@@ -1,6 +1,6 @@
 use mathlib.Core.Path.{sym, ap, ap₂, ◌∙◌, refl}
 use Rattle.transfer.proofs.Laws.{regive, turned}
-use Rattle.model.specs.step.Machine.{After, carried, readFrom, writeTo, read_step, writeStep, operate, afterChecks, stepped, started, startedBy}
+use Rattle.model.specs.step.Machine.{After, carried, read_from, write_to, read_step, write_step, operate, after_checks, stepped, started, started_by}
 use Rattle.model.specs.declared.Access.{Access}
 use Rattle.model.specs.declared.Size.{Size}
 use Rattle.model.specs.declared.Kind.{Kind}
@@ -29,9 +29,9 @@ same-length-2 : tie.Need-same-length-2
 same-length-2 c = search rules
 
 returns : tie.Need-returns
-unfolding writeStep
+unfolding write_step
 returns c = let k = c.before.before.before.before in let x = k.before.before.before in let a = x.before.before.before.before.before.args in
-    regive _ _ _ _ _ (ap (λ (z : Access). writeTo z a.size a.v a.r a.m.now a.t.now) x.access-at.ensures.same) k.write-to.ensures
+    regive _ _ _ _ _ (ap (λ (z : Access). write_to z a.size a.v a.r a.m.now a.t.now) x.access-at.ensures.same) k.write-to.ensures
 
 pub write_spec : {M : Type 1} → statement M
 write_spec =

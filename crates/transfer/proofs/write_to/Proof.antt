@@ -4,7 +4,7 @@ use mathlib.Core.List.{List}
 use Rattle.transfer.proofs.Laws.{regive, turned, noted}
 use Rattle.model.specs.declared.Access.{Access}
 use Rattle.model.specs.declared.Answer.TheVariants.{Done}
-use Rattle.model.specs.step.Machine.{carried, writeTo}
+use Rattle.model.specs.step.Machine.{carried, write_to}
 use borrow.Author.Rules.{rules}
 use Rattle.transfer.proofs.write_to.Statement.{statement}
 use Rattle.transfer.proofs.write_to.Tie as tie
@@ -30,7 +30,7 @@ store-and-note-requires c κs = search rules
 
 returns : tie.Need-returns
 returns c = let a = c.before.before.before.before.args in
-    turned _ _ _ _ _ (sym (ap (λ (z : Access). writeTo z a.size a.v a.r a.m.now a.t.now) c.enum_told.given.1))
+    turned _ _ _ _ _ (sym (ap (λ (z : Access). write_to z a.size a.v a.r a.m.now a.t.now) c.enum_told.given.1))
 
 same_length : tie.Need-same-length
 same_length c = search rules
@@ -40,7 +40,7 @@ same-length-2 c = search rules
 
 returns-2 : tie.Need-returns-2
 returns-2 c = let k = c.before.before in let x = k.before.before.before.before in let a = x.before.before.before.before.args in
-    regive _ _ _ _ _ (sym (ap (λ (z : Access). writeTo z a.size a.v a.r a.m.now a.t.now) x.x.given.1)) k.carry.ensures
+    regive _ _ _ _ _ (sym (ap (λ (z : Access). write_to z a.size a.v a.r a.m.now a.t.now) x.x.given.1)) k.carry.ensures
 
 same-length-3 : tie.Need-same-length-3
 same-length-3 c = search rules
@@ -52,7 +52,7 @@ returns-3 : tie.Need-returns-3
 returns-3 c = let k = c.before.before.before.before in let x = k.before.before.before.before in let a = x.before.before.before.before.args in
     regive _ _ _ _ _
     (ap (λ (z : List ℕ). carried (Done 0) a.r z a.t.now) k.store-and-note.ensures.0
-    ∙ sym (ap (λ (z : Access). writeTo z a.size a.v a.r a.m.now a.t.now) x.x2.given.1)) (noted (Done 0) a.r _ a.t.now _ k.store-and-note.ensures.1)
+    ∙ sym (ap (λ (z : Access). write_to z a.size a.v a.r a.m.now a.t.now) x.x2.given.1)) (noted (Done 0) a.r _ a.t.now _ k.store-and-note.ensures.1)
 
 pub write-to-spec : {M : Type 1} → statement M
 write-to-spec =

@@ -1,5 +1,5 @@
 use mathlib.Core.Path.{ap, sym, ◌∙◌}
-use Rattle.model.specs.step.WalkAnswer.{walkAnswer, outcomeNumber}
+use Rattle.model.specs.step.WalkAnswer.{walk_answer, outcome_number}
 use borrow.Author.Rules.{rules}
 use Rattle.walk.proofs.walk_image.Statement.{statement}
 use Rattle.walk.proofs.walk_image.Tie as tie
@@ -27,22 +27,22 @@ outcome-number-requires : tie.Need-outcome-number-requires
 outcome-number-requires c κs = search rules
 
 returns : tie.Need-returns
-unfolding walkAnswer
+unfolding walk_answer
 returns c = let t3 = c.before.before in let t2 = t3.before.before in let t1 = t2.before.before in
     simp (sym t1.before.memory-fits.ensures ∙ t1.if1.true, sym t2.before.root-fits.ensures ∙ t2.if2.true, sym t3.before.in_window.ensures ∙ t3.if3.true) (c.outcome-number.ensures ∙ c.before.walk.ensures.number)
 
 returns-2 : tie.Need-returns-2
-unfolding walkAnswer
+unfolding walk_answer
 returns-2 c = let t2 = c.before.before in let t1 = t2.before.before in
     simp (sym t1.before.memory-fits.ensures ∙ t1.if1.true, sym t2.before.root-fits.ensures ∙ t2.if2.true, sym c.before.in_window.ensures ∙ c.if3.false)
 
 returns-3 : tie.Need-returns-3
-unfolding walkAnswer
+unfolding walk_answer
 returns-3 c = let t1 = c.before.before in
     simp (sym t1.before.memory-fits.ensures ∙ t1.if1.true, sym c.before.root-fits.ensures ∙ c.if2.false)
 
 returns-4 : tie.Need-returns-4
-unfolding walkAnswer
+unfolding walk_answer
 returns-4 c = simp (sym c.before.memory-fits.ensures ∙ c.if1.false)
 
 pub walk-image-spec : {M : Type 1} → statement M
