@@ -1,4 +1,6 @@
 // What an access comes to: a physical address, a fault, or that its page is stale.
+#![tactic(auto)]
+
 ghost use Rattle.std.specs.Prelude.{◌≡◌, cond, eqb};
 ghost use Rattle.model.specs.Numbers.{fault_number, access_result};
 ghost use Rattle.model.specs.Telling.{Tells};

@@ -1,4 +1,6 @@
 // The checks that stand before an access, one function to each, and the numbers of refusals.
+#![tactic(auto)]
+
 ghost use Rattle.std.specs.Prelude.{◌≡◌, [], ◌∷◌, ◌<◌};
 ghost use Rattle.model.specs.Numbers.{refusal_number};
 ghost use Rattle.model.specs.declared.Refusal.TheVariants.{WrongRoot, WrongContext, WrongMode, WrongDomains, UserMode, NotContext0};

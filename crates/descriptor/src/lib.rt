@@ -1,4 +1,6 @@
 // Descriptors: what a word of a level-one or a level-two table says of a page.
+#![tactic(auto)]
+
 ghost use Rattle.std.specs.Prelude.{◌≡◌};
 ghost use Rattle.model.specs.Numbers.{first_fault};
 ghost use Rattle.model.specs.Telling.{Tells};

@@ -1,4 +1,6 @@
 // Start and one step as C functions over words and bytes, so that Rust can hand the machine any state.
+#![tactic(auto)]
+
 ghost use Rattle.std.specs.Prelude.{◌≡◌, length, get_or};
 ghost use Rattle.model.specs.reference.Rules.{rooted};
 ghost use Rattle.ffi.specs.Words.{kind_from, operation_from, registers_from, registers_into, answer_number, are_words, Left, step_call, start_call};

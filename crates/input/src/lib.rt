@@ -1,9 +1,11 @@
 // What a program reads: a file to its end, or as far as a buffer goes, and the image. What a read brings is the operating system's to say: the
 // contracts say no more than that the count is one of the buffer's bytes.
+#![tactic(auto)]
+
 ghost use Rattle.io.specs.Counts.{IsPrefixLen};
 
 // What reading brought: how many bytes stand in the buffer, and whether that is all that the buffer or the file has.
-#[derive(Drop)]
+#[derive(Clone, Copy)]
 pub struct Got {
     pub count: usize,
     pub whole: bool,

@@ -1,4 +1,6 @@
 // What lengths, registers, sizes and values can be.
+#![tactic(auto)]
+
 ghost use Rattle.std.specs.Prelude.{◌≡◌, ◌*◌, ◌<◌, ◌≤◌};
 ghost use Rattle.model.specs.Limits.{row_size};
 ghost use Rattle.model.specs.step.Checks.{memory_fits, track_fits, lengths_fit, alignment_of, root_fits, in_window, domains_fit, registers_fit, is_size, fits_size};

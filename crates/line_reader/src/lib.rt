@@ -1,5 +1,7 @@
 // Lines read into an image: a reader, which bytes are fed to in parts of any length, with two lent buffers, the line being read and the
 // image. A line is judged when it ends; once one is turned back, no byte changes anything.
+#![tactic(auto)]
+
 ghost use Rattle.std.specs.Prelude.{◌≡◌, List, ℕ, ◌≤◌, length, take, replicate};
 ghost use Rattle.lines.specs.Form.{pair_of, line_of};
 ghost use Rattle.line_reader.specs.Reading.{fresh, line_after, turn, late_turn, accept, with_byte, names_ended, word_ended, line_ended, byte_taken, step as Reading-step, feed as Reading·feed, is_decided, complete, last_test, refusal_call, end_call, finished, finished_file};
@@ -9,7 +11,7 @@ use model::Size;
 use text::Value;
 
 // What is known of the lines read so far: nothing against them; 18, the names or the shape or spelling of a line; 19, an address or a zero word.
-#[derive(Drop)]
+#[derive(Clone, Copy)]
 pub enum Verdict {
     Good,
     Form,
@@ -18,7 +20,7 @@ pub enum Verdict {
 
 // A reader: how many lines have ended, or the line that was turned back; how many bytes of the line being read its buffer holds; where the
 // image ends so far; and whether the last word is zero.
-#[derive(Drop)]
+#[derive(Clone, Copy)]
 pub struct Reader {
     pub verdict: Verdict,
     pub lines: u32,
@@ -29,7 +31,7 @@ pub struct Reader {
 
 // What the end of the input gives: how many bytes of the buffer are the whole output, that the buffer is too short for a refusal, or, at
 // the end of a program's input, that its length is not the limit.
-#[derive(Drop)]
+#[derive(Clone, Copy)]
 pub enum Told {
     Output(usize),
     ShortBuffer,

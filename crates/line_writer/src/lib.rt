@@ -1,4 +1,6 @@
 // The lines of an image, put into a lent buffer; and a refusal.
+#![tactic(auto)]
+
 ghost use Rattle.std.specs.Prelude.{◌≡◌, ◌+◌, ◌*◌, ◌/◌, ◌≤◌, length};
 ghost use Rattle.text.specs.Put.{over, wrote, place_after};
 ghost use Rattle.lines.specs.Form.{pair_text, pair_room};
@@ -8,7 +10,7 @@ ghost use Rattle.lines.specs.Settings.{image_limit};
 ghost use Rattle.line_writer.specs.Call.{place_after_word, wrote_word, called, room_for as Call·roomFor};
 
 // What a call answers: how long the text is, or why there is none.
-#[derive(Drop)]
+#[derive(Clone, Copy)]
 pub enum Told {
     Text(usize),
     ShortBuffer,

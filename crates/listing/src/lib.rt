@@ -1,5 +1,7 @@
 // The list reader: the names line, then a line at a time. What is left of a list is a part of the caller's slice, and the next line
 // is read from that part.
+#![tactic(auto)]
+
 ghost use Rattle.std.specs.Prelude.{◌≡◌, ◌<◌};
 ghost use Rattle.text.specs.Split.{past as Split·past};
 ghost use Rattle.names.specs.Names.{newline};
@@ -11,7 +13,7 @@ use names::{Named, name_of};
 use text::Value;
 
 // Why a list is turned back.
-#[derive(Drop)]
+#[derive(Clone, Copy)]
 pub enum Reason {
     TooLong,
     Names,
@@ -22,14 +24,14 @@ pub enum Reason {
 }
 
 // What a line holds: an operation, or why it is turned back.
-#[derive(Drop)]
+#[derive(Clone, Copy)]
 pub enum Line {
     Op(Operation),
     Refused(Reason),
 }
 
 // The values of the fields a, b and c: three numbers, or one or more that are spelled wrong.
-#[derive(Drop)]
+#[derive(Clone, Copy)]
 pub enum Values {
     Numbers(u32, u32, u32),
     Wrong,

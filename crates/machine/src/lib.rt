@@ -1,4 +1,6 @@
 // The machine: start, and one operation. Registers go by value; memory and track are lent.
+#![tactic(auto)]
+
 ghost use Rattle.std.specs.Prelude.{◌≡◌};
 ghost use Rattle.model.specs.step.Machine.{Gives, with_root, with_context, with_mode, with_domains, operate, stepped, started};
 

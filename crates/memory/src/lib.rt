@@ -1,4 +1,6 @@
 // Numbers of one, two and four bytes in memory, low byte first. Bytes outside memory are an answer.
+#![tactic(auto)]
+
 ghost use Rattle.std.specs.Prelude.{◌≡◌, ◌+◌, ◌*◌, ◌<◌, ◌≤◌, length};
 ghost use Rattle.model.specs.declared.Size.TheVariants.{One, Two, Four};
 ghost use Rattle.model.specs.step.Memory.{bytes_of, within, number_at, load_at, stored_at, written_at};

@@ -1,9 +1,10 @@
 // The types of the machine: registers, operations, answers, entries and what a walk finds. Their meaning in numbers
 // stands in specs/Numbers.antt.
+#![tactic(auto)]
 
 // The registers: the address of the level-one table, the current context (an ASID), the mode, 0 kernel or 1 user, and the domain
 // register, which has a field of two bits for each of sixteen domains.
-#[derive(Drop)]
+#[derive(Clone, Copy)]
 pub struct Registers {
     pub root: u32,
     pub context: u32,
@@ -17,13 +18,13 @@ pub const OLD_SPLIT: u32 = 7;
 pub const OLD_WINDOW: u32 = 4;
 
 // What a start is given beside memory and track: the address of the level-one table.
-#[derive(Drop)]
+#[derive(Clone, Copy)]
 pub struct Setting {
     pub root: u32,
 }
 
 // The kinds of operation, in the order of the rules.
-#[derive(Drop)]
+#[derive(Clone, Copy)]
 pub enum Kind {
     Read,
     Write,
@@ -39,7 +40,7 @@ pub enum Kind {
 }
 
 // An operation with its three fields.
-#[derive(Drop)]
+#[derive(Clone, Copy)]
 pub struct Operation {
     pub kind: Kind,
     pub a: u32,
@@ -50,7 +51,7 @@ pub struct Operation {
 // What a page maps to: the number of its 4 KiB frame, its access permissions AP[2:0], 1 where a section maps it, else 0, 1 where
 // it is global, so that every context may use it, else 0, its XN bit: 1 where nothing may be fetched through it, else 0, and its
 // domain, 0 to 15.
-#[derive(Drop)]
+#[derive(Clone, Copy)]
 pub struct Entry {
     pub frame: u32,
     pub ap: u32,
@@ -61,7 +62,7 @@ pub struct Entry {
 }
 
 // Why an operation carried out gave no value.
-#[derive(Drop)]
+#[derive(Clone, Copy)]
 pub enum Fault {
     Alignment,
     FirstUnmapped,
@@ -76,7 +77,7 @@ pub enum Fault {
 }
 
 // Why an operation or a start was turned back.
-#[derive(Drop)]
+#[derive(Clone, Copy)]
 pub enum Refusal {
     WrongSize,
     WrongAddress,
@@ -93,7 +94,7 @@ pub enum Refusal {
 }
 
 // What a start or an operation answers: carried out with a value, carried out with a fault, or turned back.
-#[derive(Drop)]
+#[derive(Clone, Copy)]
 pub enum Answer {
     Done(u32),
     Faulted(Fault),
@@ -101,14 +102,14 @@ pub enum Answer {
 }
 
 // What a start or an operation returns; memory and track are lent.
-#[derive(Drop)]
+#[derive(Clone, Copy)]
 pub struct Returned {
     pub answer: Answer,
     pub registers: Registers,
 }
 
 // The sizes of a number in memory.
-#[derive(Drop)]
+#[derive(Clone, Copy)]
 pub enum Size {
     One,
     Two,
@@ -116,7 +117,7 @@ pub enum Size {
 }
 
 // What an access is for: to read, to write, or to fetch an instruction.
-#[derive(Drop)]
+#[derive(Clone, Copy)]
 pub enum Purpose {
     ToRead,
     ToWrite,
@@ -124,14 +125,14 @@ pub enum Purpose {
 }
 
 // What reading a number in memory finds.
-#[derive(Drop)]
+#[derive(Clone, Copy)]
 pub enum Loaded {
     Value(u32),
     Outside,
 }
 
 // What an entry's domain, access permissions and XN bit say of an access.
-#[derive(Drop)]
+#[derive(Clone, Copy)]
 pub enum Ruling {
     Allowed,
     PermissionDenied,
@@ -139,14 +140,14 @@ pub enum Ruling {
 }
 
 // What a level-one descriptor that points to a level-two table says: the address of the table, and the domain of its pages.
-#[derive(Drop)]
+#[derive(Clone, Copy)]
 pub struct Pointer {
     pub base: u32,
     pub domain: u32,
 }
 
 // What the level-one descriptor of a page says.
-#[derive(Drop)]
+#[derive(Clone, Copy)]
 pub enum FirstLevel {
     Failing(Fault),
     Table(Pointer),
@@ -154,27 +155,27 @@ pub enum FirstLevel {
 }
 
 // What a walk needs to know of the tables beside memory: the address of the level-one table.
-#[derive(Drop)]
+#[derive(Clone, Copy)]
 pub struct Tables {
     pub root: u32,
 }
 
 // What the walk of a page finds.
-#[derive(Drop)]
+#[derive(Clone, Copy)]
 pub enum Outcome {
     Mapped(Entry),
     Failed(Fault),
 }
 
 // Whether the checks before an access let an operation pass.
-#[derive(Drop)]
+#[derive(Clone, Copy)]
 pub enum Check {
     Pass,
     Refuse(Refusal),
 }
 
 // What an access comes to: its page is stale, it faults, or its bytes lie at a physical address.
-#[derive(Drop)]
+#[derive(Clone, Copy)]
 pub enum Access {
     Stale,
     Fails(Fault),

@@ -1,4 +1,6 @@
 // The names of the operations: one function compares with them, one writes them, and both are tied to one definition.
+#![tactic(auto)]
+
 ghost use Rattle.std.specs.Prelude.{◌≡◌, ◌+◌, ◌≤◌, length};
 ghost use Rattle.text.specs.Put.{over, wrote, place_after};
 ghost use Rattle.names.specs.Names.{name as Names·name, named_of};
@@ -6,7 +8,7 @@ ghost use Rattle.names.specs.Names.{name as Names·name, named_of};
 use model::Kind;
 
 // What an operation's name names.
-#[derive(Drop)]
+#[derive(Clone, Copy)]
 pub enum Named {
     Known(Kind),
     Nothing,

@@ -1,6 +1,8 @@
 // Noting: what the tables map now is added to the sets of a track. Global entries go to the global row, the others to the row of the
 // current context. A row is lent on by itself, a word for each page of the window, and told its kind by the number `global`: 0 for a
 // context's row, 1 for the global row.
+#![tactic(auto)]
+
 ghost use Rattle.std.specs.Prelude.{◌≡◌, true, ◌+◌, ◌*◌, ◌<◌, ◌≤◌, length};
 ghost use Rattle.model.specs.declared.Size.TheVariants.{Four};
 ghost use Rattle.model.specs.Limits.{row_size};

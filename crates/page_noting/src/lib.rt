@@ -1,4 +1,6 @@
 // Noting of one page: what the tables map there now is added to its sets in the row of a context and in the global row.
+#![tactic(auto)]
+
 ghost use Rattle.std.specs.Prelude.{◌≡◌, get_or, set};
 ghost use Rattle.model.specs.Limits.{row_size};
 ghost use Rattle.model.specs.step.Rows.{in_row};

@@ -1,4 +1,6 @@
 // What access permissions and domains allow, computed from the rules, and the sheet of all 384 answers as text.
+#![tactic(auto)]
+
 ghost use Rattle.std.specs.Prelude.{◌≡◌, length};
 ghost use Rattle.model.specs.Telling.{Tells};
 ghost use Rattle.model.specs.step.Rights.{between, kernel_rights, user_rights, rights_of, permitted, ruling_of};

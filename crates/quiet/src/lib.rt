@@ -1,4 +1,6 @@
 // Whether a store is quiet: it touches no byte that a present walk uses. The test goes over the level-one words of the window alone.
+#![tactic(auto)]
+
 ghost use Rattle.std.specs.Prelude.{◌≡◌};
 ghost use Rattle.model.specs.step.Memory.{bytes_of};
 ghost use Rattle.model.specs.step.Walk.{descriptor_at, first_from};

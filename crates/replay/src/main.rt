@@ -1,5 +1,7 @@
 // Reads memory from image.bin and a list from standard input, and prints the report. Where a read or the writing fails, it says so
 // on standard error; a file that was not read to its end gives no report.
+#![tactic(auto)]
+
 ghost use Rattle.std.specs.Prelude.{◌≡◌, length};
 ghost use Rattle.io.specs.Counts.{IsPrefixLen};
 

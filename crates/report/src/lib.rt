@@ -1,4 +1,6 @@
 // The whole report: from the bytes of an image and of a list to the bytes of the report.
+#![tactic(auto)]
+
 ghost use Rattle.std.specs.Prelude.{◌≡◌, ◌+◌, ◌*◌, ◌≤◌, length};
 ghost use Rattle.model.specs.Limits.{old_window};
 ghost use Rattle.model.specs.declared.Answer.TheVariants.{Done};
@@ -11,7 +13,7 @@ use listing::{Line, Reason};
 use model::{Answer, Check, Registers, Setting};
 
 // What a call answers: how long the report is, or why there is none.
-#[derive(Drop)]
+#[derive(Clone, Copy)]
 pub enum Told {
     Report(usize),
     ShortBuffer,

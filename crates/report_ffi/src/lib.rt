@@ -1,4 +1,6 @@
 // The whole report of an image and a list as a C function.
+#![tactic(auto)]
+
 ghost use Rattle.std.specs.Prelude.{◌≡◌, ◌+◌, length};
 ghost use Rattle.report.specs.Report.{called};
 ghost use Rattle.report_ffi.specs.Call.{told_number, GivesCall};

@@ -1,4 +1,6 @@
 // The lines of a report, put into a lent buffer where there is room for the longest.
+#![tactic(auto)]
+
 ghost use Rattle.std.specs.Prelude.{◌≡◌, ◌+◌, ◌≤◌, length};
 ghost use Rattle.text.specs.Put.{over, wrote, place_after};
 ghost use Rattle.model.specs.Numbers.{refused, shown};

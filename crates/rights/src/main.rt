@@ -1,4 +1,6 @@
 // Prints the sheet of permissions: 384 answers, a line each, computed from the rules.
+#![tactic(auto)]
+
 use libc::STDOUT_FILENO;
 
 fn main() {

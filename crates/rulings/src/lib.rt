@@ -1,5 +1,7 @@
 // What is said of an access, looked up in a constant table of the 384 answers. The table is the sheet of permissions, which the program
 // `rights` writes.
+#![tactic(auto)]
+
 ghost use Rattle.std.specs.Prelude.{◌≡◌, true, ◌<◌, length};
 ghost use Rattle.model.specs.Telling.{Tells};
 ghost use Rattle.model.specs.step.Rights.{ruling_of};

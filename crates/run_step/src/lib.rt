@@ -1,5 +1,7 @@
 // One operation of a run from an accepted start: the answer, registers and memory of a full step, and of the track no more is noted than
 // the operation may have changed. After an accepted start that is the track of a full step.
+#![tactic(auto)]
+
 ghost use Rattle.std.specs.Prelude.{◌≡◌, cond, eqb};
 ghost use Rattle.model.specs.Limits.{old_window};
 ghost use Rattle.model.specs.declared.Answer.TheVariants.{Done};

@@ -1,12 +1,14 @@
 // Bytes taken apart at a separator, compared, read and written as hexadecimal numbers, and put into a lent buffer. Every function
 // is total: what does not parse, and what does not fit, is an answer.
+#![tactic(auto)]
+
 ghost use Rattle.std.specs.Prelude.{◌≡◌, ◌+◌, ◌<◌, ◌≤◌, length};
 ghost use Rattle.text.specs.Split.{has as Split·has, until as Split·until, past as Split·past, same as Split·same};
 ghost use Rattle.text.specs.Hex.{value_of, between as Hex·between, digit as Hex·digit, glyph as Hex·glyph, hex_of};
 ghost use Rattle.text.specs.Put.{over, has_room, wrote, place_after};
 
 // What a value of a list is: a number, or misspelled.
-#[derive(Drop)]
+#[derive(Clone, Copy)]
 pub enum Value {
     Number(u32),
     Misspelled,

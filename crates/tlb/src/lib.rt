@@ -1,1 +1,2 @@
 // A theory: this crate holds definitions and proofs, and no code.
+#![tactic(auto)]

@@ -1,19 +1,21 @@
 // Reads lines from standard input, a part at a time, and writes their image, or why they have none. Nothing is written before the last line is
 // accepted. Where a read or the writing fails, it says so on standard error; lines that were not read to their end give no image.
+#![tactic(auto)]
+
 ghost use Rattle.std.specs.Prelude.{◌≡◌, length};
 
 use libc::{STDIN_FILENO, STDOUT_FILENO};
 use line_reader::{Reader, Told};
 
 // Where reading stands: there may be more, it is over (the input has ended, or a line was turned back), or a read failed.
-#[derive(Drop)]
+#[derive(Clone, Copy)]
 enum Place {
     More,
     Over,
     Failed,
 }
 
-#[derive(Drop)]
+#[derive(Clone, Copy)]
 struct Reading {
     reader: Reader,
     place: Place,

@@ -1,5 +1,7 @@
 // Reads an image from image.bin, and prints its lines, or why it has none. Where a read or the writing fails, it says so on standard error; an
 // image that was not read to its end gives no lines.
+#![tactic(auto)]
+
 ghost use Rattle.std.specs.Prelude.{◌≡◌, length};
 
 use libc::STDOUT_FILENO;

@@ -1,6 +1,8 @@
 // What a TLB may remember, in the words of a track: a row for each context, then one for the global entries. A row has a word for each
 // page of the window, and is lent on by itself. What is done to a word or a row is told the row's kind by the number `global`: 0 for a
 // context's row, 1 for the global row.
+#![tactic(auto)]
+
 ghost use Rattle.std.specs.Prelude.{◌≡◌};
 ghost use Rattle.model.specs.Limits.{row_size};
 ghost use Rattle.model.specs.step.Rows.{in_row};

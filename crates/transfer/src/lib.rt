@@ -1,4 +1,6 @@
 // Reads, writes and fetches carried out, and noting, which follows whatever is carried out.
+#![tactic(auto)]
+
 ghost use Rattle.std.specs.Prelude.{◌≡◌};
 ghost use Rattle.model.specs.Limits.{old_window};
 ghost use Rattle.model.specs.step.Machine.{Gives, carried, value_of, read_from, write_to, read_step, write_step, fetch_step, tables_of};

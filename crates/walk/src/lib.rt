@@ -1,4 +1,6 @@
 // The walk of two-level tables in byte memory, and the same as a C function over an image.
+#![tactic(auto)]
+
 ghost use Rattle.std.specs.Prelude.{◌≡◌, ◌<◌};
 ghost use Rattle.model.specs.Numbers.{fault_number, first_fault};
 ghost use Rattle.model.specs.Telling.{Tells};
