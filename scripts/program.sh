@@ -6,11 +6,11 @@ fail() {
     exit 2
 }
 
-# Finds the toolchain, where there is one: it proves and builds the programs, and its C library runs them.
+# Finds the toolchain, where there is one: it proves and builds the programs, and its C library runs them. Its folder is RATTLE_HOME, or that above the bin/ of the command rt.
 find_toolchain() {
     rt=$(command -v rt) || rt=${RATTLE_HOME:-}/bin/rt
     [ -x "$rt" ] || { rt='' tools=''; return; }
-    tools=${RATTLE_HOME:-$(dirname "$(dirname "$(readlink -f "$rt")")")}/on/$(uname -m)/toolchain
+    tools=${RATTLE_HOME:-$(dirname "$(dirname "$(readlink -f "$rt")")")}/toolchain
 }
 
 # One sum over the names and contents of all sources.
@@ -37,7 +37,7 @@ is_built() { # PROGRAM SOURCES
     [ -x "$here/target/bin/$1" ] && is_marked "$1" "$2 $(sum_of_program "$1")"
 }
 
-# How many crates of the repository a program is made of.
+# The crates of the repository that a program is made of, itself first, a line each.
 crates_of() { # PROGRAM
     awk -v program="$1" '
         /^[^#]/ { sub(/:/, ""); for (i = 2; i <= NF; i++) uses[$1, i] = $i; there[$1] = NF }
@@ -48,40 +48,44 @@ crates_of() { # PROGRAM
                     other = uses[crate[k], i]
                     if (other in there && !seen[other]++) crate[++n] = other
                 }
-            print n
+            for (k = 1; k <= n; k++) print crate[k]
         }' "$here/crates.txt"
 }
 
-# Prints the crates that the toolchain has begun since a file was written. It keeps what it says of one in target/log/NAME.out, which is empty while it is proved.
-begun_since() { # FILE [TEST..]
-    local since=$1
-    shift
-    find "$here/target/log" -name '*.out' -newer "$since" "$@" -exec basename {} .out \; 2>/dev/null | sort
+# Prints the crates that the toolchain has begun, by its log, in their order. It says how many processes it chose for each when it begins it.
+begun() { # LOG
+    sed -n 's/^rt: chose --jobs [0-9]* for //p' "$1" | awk '!seen[$0]++'
 }
 
-# Says how many crates were begun, and which are being proved, as long as the file is there that was written before the first.
-tell_progress() { # PROGRAM FILE
+# Says how many crates were begun, and which is being proved, as long as the file is there that was written before the first.
+tell_progress() { # PROGRAM FILE LOG
     local all now told=''
-    all=$(crates_of "$1")
+    all=$(crates_of "$1" | wc -l)
     while [ -e "$2" ] && kill -0 $$ 2>/dev/null; do
-        now=$(begun_since "$2" -size 0 | paste -s -d , | sed 's/,/, /g')
-        [ -z "$now" ] || [ "$now" = "$told" ] || echo "$name: proving $(begun_since "$2" | wc -l) of $all: $now" >&2
+        now=$(begun "$3" | tail -n 1)
+        [ -z "$now" ] || [ "$now" = "$told" ] || echo "$name: proving $(begun "$3" | wc -l) of $all: $now" >&2
         told=$now
         sleep 0.5
     done
 }
 
-# Runs the toolchain's check, and says how far it is.
+# Has the toolchain prove, build and run a program, and says how far it is. The program gets nothing, and what it prints is dropped: it is run for its status, which is 0.
 prove() { # PROGRAM LOG
     local status teller
     : >"$2.began"
-    tell_progress "$1" "$2.began" 8>&- &
+    : >"$2"
+    tell_progress "$1" "$2.began" "$2" 8>&- &
     teller=$!
-    (cd "$here" && "$rt" check "$1") >"$2" 2>&1
+    (cd "$here/crates/$1" && "$rt" run </dev/null) >/dev/null 2>"$2"
     status=$?
     rm -f "$2.began"
     wait "$teller"
     return "$status"
+}
+
+# Takes what the toolchain built: a copy, put in its place in one step.
+take_built() { # BUILT PLACE
+    cp "$1" "$2.new" 2>/dev/null && mv -f "$2.new" "$2"
 }
 
 # Waits until no other command builds here. The lock is descriptor 8, which all that a build starts inherits: an interrupted build holds it to the end of its last part.
@@ -108,13 +112,12 @@ build() { # PROGRAM LOG
     if is_built "$1" "$sum"; then unlock; return; fi
     mkdir -p "$here/target/bin" 2>/dev/null && [ -w "$here/target/bin" ] || fail "nothing can be built here: the checkout cannot be written ($here/target)"
     echo "$name: proving and building the program, which takes some minutes the first time" >&2
-    # The toolchain's own stamp says that the program was linked, and not that it is there and the same.
-    if [ ! -x "$program" ] || is_marked "$1" "$sum"; then rm -f "$here/target/stamp/$1"; fi
     prove "$1" "$log" || {
-        grep '^rt: ' "$log" | tail -n 3 >&2
-        fail "the program is not proved, so it is not run: 'rt check $1' says why"
+        grep '^rt: ' "$log" | grep -v '^rt: chose ' | tail -n 3 >&2
+        fail "the program is not proved, so it is not run: 'rt check' in crates/$1 says why"
     }
-    [ -x "$program" ] || fail "'rt check $1' built no program"
+    [ -x "$here/crates/$1/out/$1" ] || fail "'rt run' in 'crates/$1' built no program"
+    take_built "$here/crates/$1/out/$1" "$program" || fail "the checkout cannot be written ($program)"
     mark "$1" "$sum" "$("$rt" version 2>/dev/null)" || fail "the checkout cannot be written ($program.sum)"
     unlock
 }
@@ -134,12 +137,11 @@ version() { # PROGRAM
     echo "$name $(commit), ${with:+built with }${with:-not built}"
 }
 
-# Sets `command` to what runs a program: the toolchain's loader, under its emulator where the machine is another; without a toolchain, the machine's own.
+# Sets `command` to what runs a program: the toolchain's loader; without a toolchain, the machine's own.
 command_line() { # PROGRAM
     local loader=$tools/lib/ld-linux-x86-64.so.2
     if [ -n "$tools" ] && [ -x "$loader" ]; then
         command=("$loader" --library-path "$tools/lib" "$here/target/bin/$1")
-        [ ! -x "$tools/bin/qemu-x86_64" ] || command=("$tools/bin/qemu-x86_64" "${command[@]}")
     elif [ -x /lib64/ld-linux-x86-64.so.2 ]; then
         command=("$here/target/bin/$1")
     else
