@@ -52,6 +52,23 @@ crates_of() { # PROGRAM
         }' "$here/crates.txt"
 }
 
+# Copies crates, or all, to a folder that it makes, with their lines of crates.txt and without what the toolchain built of them.
+copy_crates() { # FOLDER [CRATE..]
+    local folder=$1 name
+    shift
+    mkdir -p "$folder/crates" || return 1
+    if [ $# -eq 0 ]; then
+        cp "$here/crates.txt" "$folder/"
+        set -- $(cd "$here/crates" && echo */)
+    else
+        for name in "$@"; do grep "^$name[ :]" "$here/crates.txt"; done >"$folder/crates.txt"
+    fi
+    [ ! -e "$here/HANDLES" ] || cp "$here/HANDLES" "$folder/"
+    for name in "$@"; do
+        mkdir "$folder/crates/$name" && (cd "$here/crates/$name" && find . -mindepth 1 -maxdepth 1 ! -name out -exec cp -R {} "$folder/crates/$name/" \;) || return 1
+    done
+}
+
 # Prints the crates that the toolchain has begun, by its log, in their order. It says how many processes it chose for each when it begins it.
 begun() { # LOG
     sed -n 's/^rt: chose --jobs [0-9]* for //p' "$1" | awk '!seen[$0]++'

@@ -1,4 +1,4 @@
-//! Links the static libraries that `rt staticlib` writes of `walk`, `ffi` and `report_ffi`.
+//! Links the static libraries `walk`, `ffi` and `report_ffi` that `scripts/archives` makes.
 use std::{env, path::PathBuf};
 
 fn main() {

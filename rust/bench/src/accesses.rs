@@ -144,7 +144,7 @@ impl Started {
 
 /// Prints the times of the C function of one archive, `after`, and of an earlier one, `before`.
 pub fn against_before(before: &Path, after: &Path) -> io::Result<()> {
-    // SAFETY: the command is given archives of `rt staticlib ffi`.
+    // SAFETY: the command is given archives of `scripts/archives`.
     let (before, after) = unsafe { (archive::machine(before)?, archive::machine(after)?) };
     println!("| 100,000 accesses | after | before | ratio |\n|---|---|---|---|");
     for accesses in all() {

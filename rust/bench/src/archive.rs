@@ -1,4 +1,4 @@
-//! Archives that `rt staticlib` wrote, loaded while the program runs, so that two of them can be timed
+//! Archives that `scripts/archives` made, loaded while the program runs, so that two of them can be timed
 //! side by side.
 use calls::{ListReport, Machine, MachineStart, MachineStep, Report, Walk, WalkImage};
 use std::ffi::{c_char, c_int, c_void, CStr, CString};
@@ -29,7 +29,7 @@ impl<'a> Library<'a> {
     /// Loads an archive.
     ///
     /// # Safety
-    /// It must be one that `rt staticlib` wrote: such a one runs nothing when it is loaded.
+    /// It must be one that `scripts/archives` made: such a one runs nothing when it is loaded.
     unsafe fn load(archive: &'a Path) -> io::Result<Library<'a>> {
         let folder = programs::Folder::with_image(None);
         let library = folder.path().join("library.so");
@@ -66,7 +66,7 @@ impl<'a> Library<'a> {
 /// The walk of an archive.
 ///
 /// # Safety
-/// `rt staticlib` must have written the archive: its code is called with the types of the C header.
+/// `scripts/archives` must have made the archive: its code is called with the types of the C header.
 pub unsafe fn walk(archive: &Path) -> io::Result<Walk> {
     // SAFETY: as for this function.
     let library = unsafe { Library::load(archive)? };
@@ -123,7 +123,7 @@ mod tests {
 
     #[test]
     fn the_present_archive_walks_as_the_linked_one() {
-        // SAFETY: `rt staticlib walk` wrote it.
+        // SAFETY: `scripts/archives` made it.
         let loaded = unsafe { walk(&present("libwalk.a")) }.expect("the archive");
         for address in (0..0x40_1000).step_by(0x800) {
             let found = loaded.walk(&image_a(), 0, address);
@@ -133,7 +133,7 @@ mod tests {
 
     #[test]
     fn the_present_archive_steps_as_the_linked_one() {
-        // SAFETY: `rt staticlib ffi` wrote it.
+        // SAFETY: `scripts/archives` made it.
         let loaded = unsafe { machine(&present("libffi.a")) }.expect("the archive");
         let start = || (image_a(), vec![0; 2048], [0; 4]);
         let (mut ours, mut theirs) = (start(), start());
@@ -160,7 +160,7 @@ mod tests {
 
     #[test]
     fn the_present_archive_reports_as_the_linked_one() {
-        // SAFETY: `rt staticlib report_ffi` wrote it.
+        // SAFETY: `scripts/archives` made it.
         let loaded = unsafe { report(&present("libreport_ffi.a")) }.expect("the archive");
         let list = b"op,a,b,c\nread,1000,4,0\nwrite,404,4,4832\nread,1000,4,0\n";
         let start = || {
@@ -179,7 +179,7 @@ mod tests {
     fn an_archive_without_the_functions_is_an_error() {
         let (of_walk, of_machine) = (present("libwalk.a"), present("libffi.a"));
         let missing = PathBuf::from("no-such-archive");
-        // SAFETY: `rt staticlib` wrote the archives, and the last is not there.
+        // SAFETY: `scripts/archives` made the archives, and the last is not there.
         unsafe {
             assert!(walk(&of_machine).is_err());
             assert!(machine(&of_walk).is_err());

@@ -160,7 +160,7 @@ fn print_row(name: &str, operations: usize, times: [Duration; 4]) {
 
 /// Each list on each image, start included, which is that of a list and not of a process.
 pub fn against_before(before: &Path, after: &Path) -> io::Result<()> {
-    // SAFETY: the command is given archives of `rt staticlib report_ffi`.
+    // SAFETY: the command is given archives of `scripts/archives`.
     let functions = unsafe { [archive::report(after)?, archive::report(before)?] };
     for place in places() {
         println!("\n{}:\n", place.name);

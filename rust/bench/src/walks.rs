@@ -117,7 +117,7 @@ pub fn against_model() {
 /// Prints the times of the C function of one archive, `after`, of an earlier one, `before`, and of
 /// the model.
 pub fn against_before(before: &Path, after: &Path) -> io::Result<()> {
-    // SAFETY: the command is given archives of `rt staticlib walk`.
+    // SAFETY: the command is given archives of `scripts/archives`.
     let (before, after) = unsafe { (archive::walk(before)?, archive::walk(after)?) };
     println!(
         "| 100,000 walks | after | before | ratio | the model | ratio |\n|---|---|---|---|---|---|"

@@ -166,7 +166,7 @@ impl Report {
 }
 
 /// The functions that are linked.
-// SAFETY: `rt staticlib` wrote the archives that build.rs links.
+// SAFETY: `scripts/archives` made the archives that build.rs links.
 const WALK: Walk = unsafe { Walk::new(walk_image) };
 const MACHINE: Machine = unsafe { Machine::new(machine_start, machine_step) };
 const REPORT: Report = unsafe { Report::new(list_report) };

@@ -69,24 +69,16 @@ pub fn command(name: &str) -> Command {
 
 /// A built program, to be run in `folder`.
 pub fn program(name: &str, folder: &Path) -> Command {
-    let tools = kit().join("on").join(env::consts::ARCH).join("toolchain");
-    let loader = tools.join("lib/ld-linux-x86-64.so.2");
-    let emulator = tools.join("bin/qemu-x86_64");
+    let libraries = kit().join("toolchain/lib");
     let built = repository()
         .join("target/bin")
         .join(name)
         .canonicalize()
-        .unwrap_or_else(|_| panic!("{name} is not built: run `rt check {name}`"));
-    let mut command = if emulator.is_file() {
-        let mut command = Command::new(emulator);
-        command.arg(loader);
-        command
-    } else {
-        Command::new(loader)
-    };
+        .unwrap_or_else(|_| panic!("{name} is not built: run ./{name}"));
+    let mut command = Command::new(libraries.join("ld-linux-x86-64.so.2"));
     command
         .arg("--library-path")
-        .arg(tools.join("lib"))
+        .arg(libraries)
         .arg(built)
         .current_dir(folder);
     command

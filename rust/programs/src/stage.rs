@@ -32,11 +32,13 @@ impl Stage {
             let copied = fs::copy(repository().join(file), stage.made(file));
             copied.expect("a file of the repository");
         }
-        let lib = format!("kit/on/{}/toolchain/lib", env::consts::ARCH);
         let loader = "LOADED=yes exec \"$3\"";
-        stage.script(&format!("{lib}/ld-linux-x86-64.so.2"), loader);
+        stage.script("kit/toolchain/lib/ld-linux-x86-64.so.2", loader);
         stage.script("kit/bin/rt", "echo \"rt: $*\"; exit 0");
         stage.add_source("first");
+        for program in [name, "to_image"] {
+            fs::create_dir_all(stage.crate_of(program)).expect("a crate");
+        }
         stage.add_program(name, "cat \"$PRINTS\"");
         stage.mark(name);
         stage
@@ -45,6 +47,11 @@ impl Stage {
     /// Where a file of the stage stands.
     pub fn at(&self, name: &str) -> PathBuf {
         self.folder.path().join(name)
+    }
+
+    /// The folder of a program's crate, in which the toolchain is called.
+    pub fn crate_of(&self, program: &str) -> PathBuf {
+        self.at("crates").join(program)
     }
 
     /// The same, with its folder made.
@@ -62,9 +69,10 @@ impl Stage {
         fs::set_permissions(&path, Permissions::from_mode(0o755)).expect("its mode");
     }
 
-    /// Adds a program, which the loader alone can run.
+    /// Adds a program, which the loader alone can run: where the toolchain builds it, and where the commands take it to.
     pub fn add_program(&self, name: &str, text: &str) {
         let text = format!("[ \"${{LOADED:-}}\" = yes ] || exit 1\n{text}");
+        self.script(&format!("crates/{name}/out/{name}"), &text);
         self.script(&format!("target/bin/{name}"), &text);
     }
 

@@ -8,15 +8,20 @@ use std::time::Duration;
 const REPORT: &str = "line,op,answer,value\n2,mode,ok,0\n";
 
 /// What the toolchain of the stage does: it notes each call to build, fails beside another, says which crate it is at as the real one does,
-/// takes a second for each if it is to be slow, and builds what its own stamp does not say is built already.
-const TOOLCHAIN: &str = "[ \"$1\" = check ] || { echo kit-7; exit; }
+/// takes a second for each if it is to be slow, and builds what its own stamp does not say is built already. It is called in the
+/// program's crate, and its stamp, like the real one's, holds the sum of the program.
+const TOOLCHAIN: &str = "[ \"$1\" = run ] || { echo kit-7; exit; }
+crate=${PWD##*/}
+cd ../..
 echo called >>calls
 mkdir busy || exit 1
-mkdir -p target/log target/stamp target/bin
-at() { : >target/log/$1.out; [ ! -e slow ] || sleep 1; echo \"rt: $1 proved (1 s)\" | tee target/log/$1.out; }
+at() { echo \"rt: chose --jobs 2 for $1\" >&2; [ ! -e slow ] || sleep 1; }
 at first
 at second
-[ -e target/stamp/$2 ] || { cp made target/bin/$2; touch target/stamp/$2; }
+mkdir -p crates/$crate/out
+built=crates/$crate/out/$crate
+stamp() { cksum <$built; }
+[ -e $built ] && [ \"$(cat $built.stamp)\" = \"$(stamp)\" ] || { cp made $built; stamp >$built.stamp; }
 rmdir busy";
 
 /// A stage of `./replay` whose program is not built.
@@ -26,6 +31,7 @@ fn unbuilt() -> Stage {
     fs::write(stage.at("list"), "op,a,b,c\nmode,0,0,0\n").expect("the list");
     fs::rename(stage.at("target/bin/replay"), stage.at("made")).expect("the program");
     fs::remove_dir_all(stage.at("target")).expect("what was built");
+    fs::remove_dir_all(stage.crate_of("replay").join("out")).expect("what was built");
     stage.script("kit/bin/rt", TOOLCHAIN);
     stage
 }

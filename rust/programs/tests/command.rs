@@ -261,7 +261,7 @@ fn a_failed_build() {
     let stage = stage();
     let report = format!("{HEADER}2,mode,ok,0\n");
     assert_eq!(staged(&stage, &with_names("mode,0,0,0\n"), &report).0, 0);
-    stage.script("kit/bin/rt", "echo 'rt: replay NOT PROVED'; exit 1");
+    stage.script("kit/bin/rt", "echo 'rt: replay NOT PROVED' >&2; exit 1");
     stage.add_source("newer");
     let (status, printed, error) = staged(&stage, &with_names("mode,0,0,0\n"), &report);
     assert_eq!((status, printed.as_str()), (2, ""));

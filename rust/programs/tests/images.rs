@@ -479,7 +479,8 @@ fn the_second_program() {
     no_image(&staged("image.lines"), "image.lines:3: ");
     stage.add_program("to_image", "head -c 4096 /dev/zero");
     assert_eq!(staged("image.lines").0, 0);
-    stage.script("kit/bin/rt", "echo \"rt: $2 NOT PROVED\"; exit 1");
+    let refuses = "echo \"rt: ${PWD##*/} NOT PROVED\" >&2; exit 1";
+    stage.script("kit/bin/rt", refuses);
     stage.add_source("newer");
     stage.mark("replay");
     assert_eq!(staged("image.bin").0, 0);
