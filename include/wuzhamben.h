@@ -1,5 +1,5 @@
-/* The checker's C functions. Link libwalk.a (`rt staticlib walk`) for the first, libffi.a (`rt staticlib ffi`) for the next two, and
- * libreport_ffi.a (`rt staticlib report_ffi`) for the last; all stand in target/staticlib/. A slice is a pointer and a length, in elements; slices that are written overlap no other. Every call is
+/* The checker's C functions. Link libwalk.a for the first, libffi.a for the next two, and libreport_ffi.a for the last;
+ * `scripts/archives` makes all three, in target/staticlib/. A slice is a pointer and a length, in elements; slices that are written overlap no other. Every call is
  * safe with every content and every length, and always returns. docs/RULES.md has the rules, docs/FORMATS.md what to do about a fault
  * or a refusal. */
 #ifndef WUZHAMBEN_H
