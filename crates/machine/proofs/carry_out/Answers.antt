@@ -12,7 +12,7 @@ use Rattle.machine.proofs.carry_out.Goals as goal
 pub returns-in-Read : goal.returns-in-Read
 unfolding operate
 returns-in-Read c = let a = c.args in
-    regive _ _ _ _ _ (ap (λ (s : Size). read_step a.o.a s a.r a.m.now a.t.now) c.type_size.ensures.same ∙ sym (ap (λ (w : Kind). operate w a.o a.r a.m.now a.t.now) c.in-Read.is)) c.read.ensures
+    regive _ _ _ _ _ (ap (λ (s : Size). read_step a.o.a s a.r a.m.now a.t.now) c.size_of.ensures.same ∙ sym (ap (λ (w : Kind). operate w a.o a.r a.m.now a.t.now) c.in-Read.is)) c.read.ensures
 
 pub returns-in-Write : goal.returns-in-Write
 unfolding operate
