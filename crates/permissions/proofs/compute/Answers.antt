@@ -8,4 +8,4 @@ returns-then-place-ge-PLACES c = sym (past_answers _ c.if-place-ge-PLACES.true)
 
 pub returns : goal.returns
 returns c =
-    computed c.args.place (search rules) c.kind_at-kind.ensures c.by_rules-said.ensures.same c.number_of_lem.ensures
+    computed c.args.place (search rules) c.kind_at-kind.ensures c.by_rules-said.ensures.same c.number_of.ensures

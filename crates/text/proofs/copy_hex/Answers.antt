@@ -26,21 +26,17 @@ loop-v-preserved c =
       c.loop-v.invariant.4 ∙ rw c.glyph.ensures (spell_turn i (i - 1) v buf e h (omega arith)),
     )
 
--- the part of the buffer that is handed to `put` is the number's text
-written : (c : tie.After-copy-arg2 invariant-loop decreases-loop) → take (8 - (c.before.before.before.before.before.loop.i - 1)) (drop (c.before.before.before.before.before.loop.i - 1) (set c.before.before.before.before.before.loop.buf (c.before.before.before.before.before.loop.i - 1) c.before.before.before.glyph2.result)) ≡ hex_of c.before.before.before.before.before.before.before.args.n
-written c =
-    let i = c.loop-v.i in
-    spelled_part c.args.n i c.loop-v.v c.glyph-2.result c.loop-v.buf (i - 1) (omega arith) (omega arith) c.loop-v.invariant.2 (omega arith) c.glyph-2.ensures c.loop-v.invariant.4
-
 pub slice_bounds-copy-end : goal.slice_bounds-copy-end
 slice_bounds-copy-end c =
     let h : 8 ≤ length (set c.loop-v.buf (c.loop-v.i - 1) c.glyph-2.result) = simp length-set (omega arith) in
     h
 
 pub copy-requires : goal.copy-requires
-copy-requires c = rw (written c) (omega (arith, hex_length c.args.n))
+copy-requires c =
+    let w = spelled_part c.args.n c.loop-v.i c.loop-v.v c.glyph-2.result c.loop-v.buf (c.loop-v.i - 1) (omega arith) (omega arith) c.loop-v.invariant.2 (omega arith) c.glyph-2.ensures c.loop-v.invariant.4 in
+    rw w (omega (arith, hex_length c.args.n))
 
 pub returns : goal.returns
 returns c =
-    let w = written c in
+    let w = spelled_part c.args.n c.loop-v.i c.loop-v.v c.glyph-2.result c.loop-v.buf (c.loop-v.i - 1) (omega arith) (omega arith) c.loop-v.invariant.2 (omega arith) c.glyph-2.ensures c.loop-v.invariant.4 in
     rw (sym w) c.copy.ensures

@@ -9,6 +9,7 @@ use Rattle.text.specs.Hex.{digit, digits, number, lean}
 use Rattle.text.proofs.HexLaws.{digits_more, digits_stop, digits_end, number_more, number_end, bound_more, bound_fits}
 use Rattle.text.proofs.HexLaws.{value_long, value_lean, value_digits, value_good, lean_empty, lean_one, lean_zero, lean_other}
 use Rattle.text.proofs.read_value.Goals as goal
+use Rattle.text.proofs.read_value.Goals.{then-s-gt1+else-s-eq48, else-s-gt1}
 
 pub returns-then-s-eq0 : goal.returns-then-s-eq0
 returns-then-s-eq0 c = value_lean _ (lean_empty _ c.if-s-eq0.true)
@@ -24,7 +25,7 @@ loop-i-init c =
     let l = c.args.s.now in (
       omega arith,
       omega arith,
-      ⊎_elim (λ w. lean_other l w.0.true w.2.false) (λ w. lean_one l (omega arith)) c.if-s-gt1.branch,
+      elim c.if-s-gt1.branch [ then-s-gt1+else-s-eq48 w ↦ lean_other l w.if-s-gt1.true w.if-s-eq48.false | else-s-gt1 w ↦ lean_one l (omega arith) ],
       lit< tt,
       refl,
       refl,

@@ -1,0 +1,17 @@
+use mathlib.Core.Path.{◌≡◌, refl, ap, sym}
+use mathlib.Core.List.{[], ◌∷◌}
+use mathlib.Core.Bool.{true}
+use Rattle.model.specs.declared.Kind.{Kind}
+use Rattle.model.specs.step.Checks.{root_may_change}
+use Rattle.checks.proofs.Laws.{others}
+use Rattle.checks.proofs.root_may_change.Goals as goal
+
+pub returns-in-Root : goal.returns-in-Root
+unfolding root_may_change
+returns-in-Root c = let a = c.args in
+    sym (ap (λ (k : Kind). root_may_change k a.context) c.in-Root.is)
+
+pub returns-in_default : goal.returns-in_default
+unfolding root_may_change
+returns-in_default c = let a = c.args in
+    others (0 ∷ 1 ∷ 3 ∷ 4 ∷ 5 ∷ 6 ∷ 7 ∷ 8 ∷ 9 ∷ 10 ∷ []) (λ (k : Kind). true ≡ root_may_change k a.context) (refl, (refl, (tt, (refl, (refl, (refl, (refl, (refl, (refl, (refl, refl)))))))))) a.kind c.in-Root.keys2
