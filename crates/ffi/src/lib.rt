@@ -1,4 +1,4 @@
-// Start and one step as C functions over words and bytes, so that Rust can hand the machine any state.
+// Start and one step over words and bytes, so that a caller can hand the machine any state; `ffi_c` gives both to C.
 #![tactic(auto)]
 
 ghost use Rattle.std.specs.Prelude.{◌≡◌, length, get_or};
@@ -115,8 +115,7 @@ fn are_words(o: &[u32], r: &[u32]) -> bool
 
 // One operation: kind, a, b and c in `o`; root, context, mode and domains in `r`, which holds the registers returned afterwards. Words
 // that are no operation or no registers give 0x300000000 and change nothing.
-#[unsafe(no_mangle)]
-pub extern "C" fn machine_step(o: &[u32], r: &mut [u32], m: &mut [u8], t: &mut [u32]) -> u64
+pub fn machine_step(o: &[u32], r: &mut [u32], m: &mut [u8], t: &mut [u32]) -> u64
     ensures { Left (step_call o.now r.old m.old t.old) result r.new m.new t.new }
 {
     if are_words(o, r) {
@@ -132,8 +131,7 @@ pub extern "C" fn machine_step(o: &[u32], r: &mut [u32], m: &mut [u8], t: &mut [
 }
 
 // A start; `r` holds the registers returned afterwards.
-#[unsafe(no_mangle)]
-pub extern "C" fn machine_start(m: &[u8], t: &mut [u32], root: u32, r: &mut [u32]) -> u64
+pub fn machine_start(m: &[u8], t: &mut [u32], root: u32, r: &mut [u32]) -> u64
     ensures { Left (start_call m.now t.old (rooted root) r.old) result r.new m.now t.new }
 {
     if r.len() == 4 {

@@ -1,4 +1,4 @@
-// The walk of two-level tables in byte memory, and the same as a C function over an image.
+// The walk of two-level tables in byte memory, and the same over an image, which `walk_c` gives to C.
 #![tactic(auto)]
 
 ghost use Rattle.std.specs.Prelude.{◌≡◌, ◌<◌};
@@ -90,8 +90,7 @@ fn outcome_number(o: Outcome) -> u64
 }
 
 // The walk of one address: an entry's track word, 0x100000000 plus a fault, or 0x200000000 plus a refusal.
-#[unsafe(no_mangle)]
-pub extern "C" fn walk_image(image: &[u8], root: u32, address: u32) -> u64
+pub fn walk_image(image: &[u8], root: u32, address: u32) -> u64
     ensures { result ≡ walk_answer image.now root address }
 {
     if memory_fits(image.len()) {

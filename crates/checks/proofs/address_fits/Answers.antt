@@ -34,4 +34,4 @@ returns-in-Fetch c = let a = c.args in
 pub returns-in_default : goal.returns-in_default
 unfolding address_fits
 returns-in_default c = let a = c.args in
-    others (2 ∷ 3 ∷ 4 ∷ 5 ∷ 7 ∷ 10 ∷ []) (λ (k : Kind). true ≡ address_fits a.window k a.a) (tt, (tt, (refl, (refl, (refl, (refl, (tt, (refl, (tt, (tt, refl)))))))))) a.kind c.in-Addr.keys6
+    others (λ (k : Kind). true ≡ address_fits a.window k a.a) c.args.kind (λ e. absurd (c.in_default.not-Read e), λ e. absurd (c.in_default.not-Write e), λ e. refl, λ e. refl, λ e. refl, λ e. refl, λ e. absurd (c.in_default.not-Addr e), λ e. refl, λ e. absurd (c.in_default.not-AddrCtx e), λ e. absurd (c.in_default.not-Fetch e), λ e. refl)

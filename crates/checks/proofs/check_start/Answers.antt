@@ -1,5 +1,3 @@
-use mathlib.Core.Path.{ap}
-use mathlib.Core.Bool.{not}
 use Rattle.model.specs.step.Checks.{start_checks}
 use Rattle.checks.proofs.Laws.{passed, failed, none_left}
 use Rattle.checks.proofs.check_start.Goals as goal
@@ -11,10 +9,10 @@ returns-then-not-lengths_fit c = failed _ _ c.lengths_fit.ensures c.if-not-lengt
 pub returns-then-root_fits : goal.returns-then-root_fits
 unfolding start_checks
 returns-then-root_fits c = passed _ _ c.lengths_fit.ensures c.if-not-lengths_fit.false (
-    passed _ _ c.root_fits.ensures (ap not c.if-root_fits.true) (
+    passed _ _ c.root_fits.ensures c.if-root_fits.true (
     none_left))
 
 pub returns : goal.returns
 unfolding start_checks
 returns c = passed _ _ c.lengths_fit.ensures c.if-not-lengths_fit.false (
-    failed _ _ c.root_fits.ensures (ap not c.if-root_fits.false))
+    failed _ _ c.root_fits.ensures c.if-root_fits.false)

@@ -24,4 +24,4 @@ returns-in-AddrCtx c = let a = c.args in
 pub returns-in_default : goal.returns-in_default
 unfolding context_fits
 returns-in_default c = let a = c.args in
-    others (0 ∷ 1 ∷ 2 ∷ 4 ∷ 5 ∷ 6 ∷ 9 ∷ 10 ∷ []) (λ (k : Kind). true ≡ context_fits k a.a a.b a.k) (refl, (refl, (refl, (tt, (refl, (refl, (refl, (tt, (tt, (refl, refl)))))))))) a.kind c.in-AddrCtx.keys4
+    others (λ (k : Kind). true ≡ context_fits k a.a a.b a.k) c.args.kind (λ e. refl, λ e. refl, λ e. refl, λ e. absurd (c.in_default.not-Asid e), λ e. refl, λ e. refl, λ e. refl, λ e. absurd (c.in_default.not-Ctx e), λ e. absurd (c.in_default.not-AddrCtx e), λ e. refl, λ e. refl)

@@ -29,4 +29,4 @@ returns-in-Fetch c = let a = c.args in
 pub returns-in_default : goal.returns-in_default
 unfolding may_ask
 returns-in_default c = let a = c.args in
-    others (2 ∷ 3 ∷ 5 ∷ 6 ∷ 7 ∷ 8 ∷ 10 ∷ []) (λ (k : Kind). eqb a.mode 0 ≡ may_ask k a.mode) (tt, (tt, (refl, (refl, (tt, (refl, (refl, (refl, (refl, (tt, refl)))))))))) a.kind c.in-Fetch.keys5
+    others (λ (k : Kind). eqb a.mode 0 ≡ may_ask k a.mode) c.args.kind (λ e. absurd (c.in_default.not-Read e), λ e. absurd (c.in_default.not-Write e), λ e. refl, λ e. refl, λ e. absurd (c.in_default.not-Mode e), λ e. refl, λ e. refl, λ e. refl, λ e. refl, λ e. absurd (c.in_default.not-Fetch e), λ e. refl)

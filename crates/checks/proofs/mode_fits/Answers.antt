@@ -14,4 +14,4 @@ returns-in-Mode c = let a = c.args in
 pub returns-in_default : goal.returns-in_default
 unfolding mode_fits
 returns-in_default c = let a = c.args in
-    others (0 ∷ 1 ∷ 2 ∷ 3 ∷ 5 ∷ 6 ∷ 7 ∷ 8 ∷ 9 ∷ 10 ∷ []) (λ (k : Kind). true ≡ mode_fits k a.a) (refl, (refl, (refl, (refl, (tt, (refl, (refl, (refl, (refl, (refl, refl)))))))))) a.kind c.in-Mode.keys2
+    others (λ (k : Kind). true ≡ mode_fits k a.a) c.args.kind (λ e. refl, λ e. refl, λ e. refl, λ e. refl, λ e. absurd (c.in_default.not-Mode e), λ e. refl, λ e. refl, λ e. refl, λ e. refl, λ e. refl, λ e. refl)

@@ -14,4 +14,4 @@ returns-in-Domain c = let a = c.args in
 pub returns-in_default : goal.returns-in_default
 unfolding new_domains_fit
 returns-in_default c = let a = c.args in
-    others (0 ∷ 1 ∷ 2 ∷ 3 ∷ 4 ∷ 5 ∷ 6 ∷ 7 ∷ 8 ∷ 9 ∷ []) (λ (k : Kind). true ≡ new_domains_fit k a.a) (refl, (refl, (refl, (refl, (refl, (refl, (refl, (refl, (refl, (refl, tt)))))))))) a.kind c.in-Domain.keys2
+    others (λ (k : Kind). true ≡ new_domains_fit k a.a) c.args.kind (λ e. refl, λ e. refl, λ e. refl, λ e. refl, λ e. refl, λ e. refl, λ e. refl, λ e. refl, λ e. refl, λ e. refl, λ e. absurd (c.in_default.not-Domain e))

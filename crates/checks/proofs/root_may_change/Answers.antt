@@ -14,4 +14,4 @@ returns-in-Root c = let a = c.args in
 pub returns-in_default : goal.returns-in_default
 unfolding root_may_change
 returns-in_default c = let a = c.args in
-    others (0 ∷ 1 ∷ 3 ∷ 4 ∷ 5 ∷ 6 ∷ 7 ∷ 8 ∷ 9 ∷ 10 ∷ []) (λ (k : Kind). true ≡ root_may_change k a.context) (refl, (refl, (tt, (refl, (refl, (refl, (refl, (refl, (refl, (refl, refl)))))))))) a.kind c.in-Root.keys2
+    others (λ (k : Kind). true ≡ root_may_change k a.context) c.args.kind (λ e. refl, λ e. refl, λ e. absurd (c.in_default.not-Root e), λ e. refl, λ e. refl, λ e. refl, λ e. refl, λ e. refl, λ e. refl, λ e. refl, λ e. refl)

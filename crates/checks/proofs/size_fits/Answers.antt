@@ -19,4 +19,4 @@ returns-in-Write c = let a = c.args in
 pub returns-in_default : goal.returns-in_default
 unfolding size_fits
 returns-in_default c = let a = c.args in
-    others (2 ∷ 3 ∷ 4 ∷ 5 ∷ 6 ∷ 7 ∷ 8 ∷ 9 ∷ 10 ∷ []) (λ (k : Kind). true ≡ size_fits k a.b) (tt, (tt, (refl, (refl, (refl, (refl, (refl, (refl, (refl, (refl, refl)))))))))) a.kind c.in-Read.keys3
+    others (λ (k : Kind). true ≡ size_fits k a.b) c.args.kind (λ e. absurd (c.in_default.not-Read e), λ e. absurd (c.in_default.not-Write e), λ e. refl, λ e. refl, λ e. refl, λ e. refl, λ e. refl, λ e. refl, λ e. refl, λ e. refl, λ e. refl)

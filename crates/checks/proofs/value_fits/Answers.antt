@@ -14,4 +14,4 @@ returns-in-Write c = let a = c.args in
 pub returns-in_default : goal.returns-in_default
 unfolding value_fits
 returns-in_default c = let a = c.args in
-    others (0 ∷ 2 ∷ 3 ∷ 4 ∷ 5 ∷ 6 ∷ 7 ∷ 8 ∷ 9 ∷ 10 ∷ []) (λ (k : Kind). true ≡ value_fits k a.b a.c) (refl, (tt, (refl, (refl, (refl, (refl, (refl, (refl, (refl, (refl, refl)))))))))) a.kind c.in-Write.keys2
+    others (λ (k : Kind). true ≡ value_fits k a.b a.c) c.args.kind (λ e. refl, λ e. absurd (c.in_default.not-Write e), λ e. refl, λ e. refl, λ e. refl, λ e. refl, λ e. refl, λ e. refl, λ e. refl, λ e. refl, λ e. refl)

@@ -8,7 +8,7 @@ use Rattle.walk.proofs.level_one.Goals as goal
 
 pub returns-in-Value : goal.returns-in-Value
 unfolding first_at
-returns-in-Value c = tells first_fault (c.first_of.ensures.same ∙ via (λ (x : Loaded). first_from x c.args.page) c.load.ensures c.w-1.given.1)
+returns-in-Value c = tells first_fault (c.first_of.ensures.same ∙ via (λ (x : Loaded). first_from x c.args.page) c.load.ensures c.in-Value.is)
 
 pub returns-in-Outside : goal.returns-in-Outside
 unfolding first_at

@@ -9,7 +9,7 @@ use Rattle.walk.proofs.level_two.Goals as goal
 pub returns-in-Value : goal.returns-in-Value
 unfolding second_at
 returns-in-Value c = let a = c.args in
-    tells outcome_number (c.second_of.ensures.same ∙ via (λ (x : Loaded). second_from x a.page a.table.domain) c.load.ensures c.w-1.given.1)
+    tells outcome_number (c.second_of.ensures.same ∙ via (λ (x : Loaded). second_from x a.page a.table.domain) c.load.ensures c.in-Value.is)
 
 pub returns-in-Outside : goal.returns-in-Outside
 unfolding second_at

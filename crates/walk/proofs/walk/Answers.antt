@@ -9,14 +9,14 @@ use Rattle.walk.proofs.walk.Goals as goal
 pub returns-in-Failing : goal.returns-in-Failing
 unfolding walk_page
 returns-in-Failing c = let a = c.args in
-    tells outcome_number (via (λ (x : FirstLevel). walk_from x a.m.now a.page) c.level_one.ensures.same c.f-1.given.1)
+    tells outcome_number (via (λ (x : FirstLevel). walk_from x a.m.now a.page) c.level_one.ensures.same c.in-Failing.is)
 
 pub returns-in-Section : goal.returns-in-Section
 unfolding walk_page
 returns-in-Section c = let a = c.args in
-    tells outcome_number (via (λ (x : FirstLevel). walk_from x a.m.now a.page) c.level_one.ensures.same c.e-1.given.1)
+    tells outcome_number (via (λ (x : FirstLevel). walk_from x a.m.now a.page) c.level_one.ensures.same c.in-Section.is)
 
 pub returns-in-Table : goal.returns-in-Table
 unfolding walk_page
 returns-in-Table c = let a = c.args in
-    tells outcome_number (c.level_two.ensures.same ∙ via (λ (x : FirstLevel). walk_from x a.m.now a.page) c.level_one.ensures.same c.table-1.given.1)
+    tells outcome_number (c.level_two.ensures.same ∙ via (λ (x : FirstLevel). walk_from x a.m.now a.page) c.level_one.ensures.same c.in-Table.is)

@@ -1,0 +1,6 @@
+use Rattle.ffi.specs.Words.{kind_from, operation_from, registers_from, registers_into, answer_number, are_words}
+use Rattle.ffi.proofs.registers_from.Goals as goal
+
+pub returns : goal.returns
+unfolding registers_from
+returns c = λ i. record { root = c.word.ensures i; context = c.word-2.ensures i; mode = c.word-3.ensures i; domains = c.word-4.ensures i }

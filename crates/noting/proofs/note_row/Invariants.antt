@@ -1,0 +1,16 @@
+use Prim.Native.Nat.{ℕ, ◌+◌, ◌*◌, ◌/◌, ◌≤◌, ◌<◌, ◌%◌, ◌-◌, zero-le}
+use lib.ListN.{length, take, drop}
+use native.Mathlib.Omega.{arith}
+use mathlib.Core.Path.{◌≡◌, refl, ap, sym, ◌∙◌}
+use Rattle.model.specs.step.Rows.{map_first}
+use Rattle.model.specs.step.Track.{note_page}
+use Rattle.noting.specs.Mib.{mib_pages}
+use Rattle.track.proofs.Rows.{part_turn, all_turns}
+use Rattle.noting.proofs.Mib.{by_mib}
+use Rattle.noting.proofs.note_row.Given as goal
+
+abbrev pub invariant-loop-page : goal.invariant-loop-page
+invariant-loop-page l = (l.page ≤ length l.initial.row) × ((l.row ≡ map_first (note_page l.m l.tables l.global) 0 l.page l.initial.row) × ((length l.row ≡ length l.initial.row) × (l.page < length l.initial.row → l.page % mib_pages ≡ 0)))
+
+abbrev pub decreases-loop-page : goal.decreases-loop-page
+decreases-loop-page l = length l.initial.row - l.page

@@ -1,0 +1,15 @@
+use Prim.Native.Nat.{ℕ, ◌≤◌, ◌-◌, zero-le}
+use native.Mathlib.Nat.{le_antisymm}
+use lib.ListN.{length, length-set}
+use Rattle.model.specs.step.Rows.{map_first}
+use Rattle.track.proofs.Rows.{turn}
+use native.Mathlib.Omega.{arith}
+use mathlib.Core.Path.{◌≡◌, refl, ap, sym, ◌∙◌}
+use Rattle.track.proofs.Rows.{all_turns}
+use Rattle.track.proofs.empty_row.Given as goal
+
+abbrev pub invariant-loop-p : goal.invariant-loop-p
+invariant-loop-p l = (l.p ≤ length l.initial.row) × ((l.row ≡ map_first (λ (i w : ℕ). 0) 0 l.p l.initial.row) × (length l.row ≡ length l.initial.row))
+
+abbrev pub decreases-loop-p : goal.decreases-loop-p
+decreases-loop-p l = length l.initial.row - l.p
