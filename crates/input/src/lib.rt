@@ -117,3 +117,93 @@ fn read_opened<F: Read + Drop>(mut file: F, buf: &mut [u8]) -> Got
     let got = read_whole(&mut file, buf);
     if got.count == 0 { nothing() } else { got }
 }
+
+// What no clause says, since the system's reads are no known bytes: when what was read counts as whole, and that the last error is told.
+#[cfg(test)]
+mod tests {
+    use super::*;
+    use std::io::ErrorKind;
+
+    const END: u8 = 0;
+
+    const BYTE: u8 = 1;
+
+    const FAILURE: u8 = 2;
+
+    // Each read gives what the script has next, and the end behind it.
+    #[derive(Drop)]
+    struct Scripted<'a>(&'a [u8]);
+
+    impl Read for Scripted<'_> {
+        fn read(&mut self, buf: &mut [u8]) -> io::Result<usize> {
+            let Some((next, rest)) = self.0.split_first() else {
+                return Ok(0);
+            };
+            self.0 = rest;
+            if *next == FAILURE {
+                return Err(io::Error::from(ErrorKind::WouldBlock));
+            }
+            if *next == BYTE && !buf.is_empty() {
+                buf[0] = b'x';
+                return Ok(1);
+            }
+            Ok(0)
+        }
+    }
+
+    // A prefix is never told to be whole, and an end that more follows is none.
+    #[test]
+    fn a_buffer_of_three_bytes(rt: HostRuntime) {
+        let cases: [(&[u8], usize, bool, bool); 8] = [
+            (&[], 0, true, false),
+            (&[BYTE], 1, true, false),
+            (&[BYTE, BYTE, BYTE, BYTE], 3, true, false),
+            (&[BYTE, FAILURE], 1, true, true),
+            (&[BYTE, FAILURE, FAILURE], 1, false, true),
+            (&[BYTE, FAILURE, BYTE], 1, false, true),
+            (&[BYTE, END, BYTE], 1, false, false),
+            (&[FAILURE, FAILURE], 0, false, true),
+        ];
+        for (script, count, whole, failed) in cases {
+            let mut buf = [0u8; 3];
+            let got = read_whole(&mut Scripted(script), &mut buf);
+            assert_eq!(rt; got.count, count, "{script:?}");
+            assert_eq!(rt; got.whole, whole, "{script:?}");
+            assert_eq!(rt; got.error.is_some(), failed, "{script:?}");
+        }
+    }
+
+    #[test]
+    fn known_bytes(rt: HostRuntime) {
+        let mut buf = *b"......";
+        let got = read_whole(&mut &b"abcd"[..], &mut buf);
+        assert_eq!(rt; got.count, 4);
+        assert!(rt; got.whole);
+        assert_eq!(rt; buf, *b"abcd..");
+    }
+
+    // No image.bin lies where the tests run.
+    #[test]
+    fn an_image_that_is_missing(rt: HostRuntime) {
+        let mut buf = [0u8; 3];
+        let got = read_image(&rt, &mut buf);
+        assert_eq!(rt; got.count, 0);
+        assert!(rt; got.whole);
+    }
+
+    // An image of which the first read fails counts as missing, one that fails behind its first byte is not whole.
+    #[test]
+    fn an_image_that_fails(rt: HostRuntime) {
+        let cases: [(&[u8], usize, bool); 3] = [
+            (&[FAILURE, FAILURE], 0, true),
+            (&[BYTE, FAILURE, FAILURE], 1, false),
+            (&[BYTE, BYTE, BYTE, FAILURE], 3, true),
+        ];
+        for (script, count, whole) in cases {
+            let mut buf = [0u8; 3];
+            let got = read_opened(Scripted(script), &mut buf);
+            assert_eq!(rt; got.count, count, "{script:?}");
+            assert_eq!(rt; got.whole, whole, "{script:?}");
+        }
+    }
+}
