@@ -1,7 +1,7 @@
 // What a program writes: its output, whole, and on standard error what failed and why.
 #![tactic(auto)]
 
-ghost use Rattle.std.specs.Io.{StartsWith};
+ghost use Rattle.std.specs.Prelude.{◌≡◌, ◌≢◌, ◌⊎◌, ℕ, List, ◌++◌, codes};
 
 use std::io;
 
@@ -34,10 +34,34 @@ fn say(rt: &(impl Eprint + AllocGlobal), what: &str, error: io::Error) -> io::Re
 
 // The text of an error without the number that std puts behind the system's words, as in `Is a directory (os error 21)`.
 fn words(text: &str) -> &str
-    ensures { StartsWith text.now result.now }
+    ensures { ((rest : List ℕ) × (text.now ≡ result.now ++ (codes " (os error " ++ rest))) ⊎ ((result.now ≡ text.now) × ((xs ys : List ℕ) → text.now ≢ xs ++ (codes " (os error " ++ ys))) }
 {
     match text.split_once(" (os error ") {
         Some((front, _)) => front,
         None => text,
+    }
+}
+
+#[cfg(test)]
+mod tests {
+    use super::*;
+
+    // The texts are those of the C library's strerror.
+    #[test]
+    fn the_words_for_an_error(rt: HostRuntime) {
+        for (code, want) in [
+            (2, "No such file or directory"),
+            (11, "Resource temporarily unavailable"),
+            (21, "Is a directory"),
+            (28, "No space left on device"),
+        ] {
+            let error = io::Error::from_raw_os_error(code);
+            let text = format!(in rt.alloc(); "{error}").expect(&rt, "a text");
+            assert_eq!(rt; words(text.as_str()), want, "{code}");
+        }
+        assert_eq!(rt;
+            words("failed to write whole buffer"),
+            "failed to write whole buffer"
+        );
     }
 }
