@@ -1,11 +1,8 @@
 -- Laws of the definitions of a line. Assumes nothing.
 use Prim.Native.Nat.{ℕ}
-use mathlib.Core.Path.{◌≡◌, refl, ap, sym, ◌∙◌}
-use mathlib.Core.Bool.{Bool, true, false, cond, not, true≢false}
-use mathlib.Core.List.{List, [], ◌∷◌, ◌++◌}
-use borrow.Author.Tests.{not-true, not-false}
-use Rattle.text.specs.declared.Value.{Value}
-use Rattle.text.specs.declared.Value.TheVariants.{Number, Misspelled}
+use mathlib.Core.Path.{◌≡◌, ap}
+use mathlib.Core.Bool.{true, false}
+use mathlib.Core.List.{List}
 use Rattle.model.specs.declared.Kind.{Kind}
 use Rattle.listing.specs.declared.Line.{Line}
 use Rattle.listing.specs.declared.Line.TheVariants.{Op, Refused}
@@ -29,13 +26,6 @@ op_third k a b c h i j = rw (h, i, j)
 pub op_good : (k : Kind) (a b c : ℕ) → spare (used k) 0 a ≡ true → spare (used k) 1 b ≡ true → spare (used k) 2 c ≡ true → Op (record { kind = k; a = a; b = b; c = c }) ≡ op_of k a b c
 unfolding op_of zeros
 op_good k a b c h i j = rw (h, i, j)
-
--- what a negated test says of the definition that its flag is equal to
-pub was_false : {t u : Bool} → t ≡ u → not t ≡ true → u ≡ false
-was_false {t} e h = sym e ∙ not-true t h
-
-pub was_true : {t u : Bool} → t ≡ u → not t ≡ false → u ≡ true
-was_true {t} e h = sym e ∙ not-false t h
 
 -- what is equal to a line's reading has its number
 pub with_number : {r : Line} (l : List ℕ) → r ≡ line_of l → (r ≡ line_of l) × (line_number r ≡ line_number (line_of l))

@@ -1,0 +1,42 @@
+use Prim.Native.Nat.{ℕ, ◌+◌, ◌*◌, ◌≤◌}
+use mathlib.Core.Path.{◌≡◌, refl, ap, sym, ◌∙◌}
+use mathlib.Core.List.{List}
+use native.Mathlib.Omega.{arith}
+use lib.ListN.{length}
+use Rattle.text.specs.Split.{past}
+use Rattle.text.proofs.SplitLaws.{past_length}
+use Rattle.names.specs.Names.{newline}
+use Rattle.listing.specs.declared.Reason.TheVariants.{TooLong, Names}
+use Rattle.listing.specs.Whole.{read_rest}
+use Rattle.model.specs.declared.Answer.TheVariants.{Done}
+use Rattle.model.specs.step.Machine.{After}
+use Rattle.report.specs.Report.{replayed}
+use Rattle.report.proofs.ReportLaws.{read_long, read_names, read_none, not_long, ran_same, ran_stopped}
+use Rattle.report.proofs.read_list.Goals as goal
+
+pub returns-then-too_long : goal.returns-then-too_long
+returns-then-too_long c = ran_stopped _ c.args.list.now TooLong _ (read_long c.args.list.now (sym c.too_long.ensures ∙ c.if-too_long.true)) (omega (arith, c.requires.at_in_bounds))
+    c.list_number.ensures.0 c.put_refusal.ensures
+
+pub lines-requires : goal.lines-requires
+lines-requires c =
+    let l = c.args.list.now in
+    let b = not_long l (sym c.too_long.ensures ∙ c.if-too_long.false) in
+    record {
+      list_len_bound = omega (arith, ap length c.rest.ensures, past_length newline l, b);
+      list_in_bounds = omega (arith, ap length c.rest.ensures, past_length newline l, b, c.requires.at_in_bounds);
+      noted = c.requires.noted;
+    }
+
+pub returns-then-has_names : goal.returns-then-has_names
+returns-then-has_names c =
+    let x : After = record { answer = Done 0; registers = c.args.r; memory = c.args.m.now; track = c.args.t.now } in
+    let l = c.args.list.now in
+    ran_same _ _
+    (ap (λ (z : List ℕ). replayed 2 x (read_rest z)) c.rest.ensures
+    ∙ sym (ap (replayed 2 x) (read_names l (sym c.too_long.ensures ∙ c.if-too_long.false) (sym c.has_names.ensures ∙ c.if-has_names.true)))) c.lines.ensures
+
+pub returns : goal.returns
+returns c = ran_stopped _ c.args.list.now Names _
+    (read_none c.args.list.now (sym c.too_long.ensures ∙ c.if-too_long.false) (sym c.has_names.ensures ∙ c.if-has_names.false)) (omega (arith, c.requires.at_in_bounds))
+    c.list_number-2.ensures.0 c.put_refusal-2.ensures

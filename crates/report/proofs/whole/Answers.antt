@@ -1,0 +1,21 @@
+use Prim.Native.Nat.{ℕ, ◌+◌, ◌*◌, ◌≤◌}
+use mathlib.Core.Path.{◌≡◌, refl, ap, sym, ◌∙◌}
+use mathlib.Core.List.{List}
+use native.Mathlib.Omega.{arith}
+use lib.ListN.{length}
+use Rattle.text.proofs.PutLaws.{wrote_fits, length_over}
+use Rattle.report_line.specs.Text.{header}
+use Rattle.report.specs.Report.{body_of, report_of}
+use Rattle.report.proofs.ReportLaws.{ran_headed}
+use Rattle.report.proofs.whole.Goals as goal
+
+pub body-requires : goal.body-requires
+body-requires c =
+    let d = c.args.out.now in
+    let f = wrote_fits (length header) d 0 header _ _ (omega (arith, c.requires)) c.put_header-at.ensures in
+    omega (arith, f.0, ap length f.1 ∙ length_over d 0 header (omega (arith, c.requires)), c.requires)
+
+pub returns : goal.returns
+unfolding report_of
+returns c =
+    ran_headed (body_of c.args.m.now c.args.t.now c.args.list.now) (omega (arith, c.requires)) c.put_header-at.ensures c.body.ensures
