@@ -1,4 +1,4 @@
-use mathlib.Core.Path.{◌≡◌, ap, sym, ◌∙◌}
+use mathlib.Core.Path.{ap, sym, ◌∙◌}
 use borrow.Author.Tests.{eq-eqb, ne_eqb}
 use Rattle.model.specs.step.Track.{entry_word, stale_word}
 use Rattle.track.proofs.Stale.{empty_fresh}
