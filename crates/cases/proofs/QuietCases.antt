@@ -1,7 +1,7 @@
 -- Cases: which stores are quiet, and what the step for runs leaves in the track.
 use Prim.Native.Nat.{ℕ, ◌+◌, ◌*◌}
 use mathlib.Core.Path.{◌≡◌, refl}
-use mathlib.Core.Bool.{Bool, true, cond, not}
+use mathlib.Core.Bool.{true, cond}
 use mathlib.Core.List.{List, [], ◌∷◌, ◌++◌}
 use lib.ListN.{replicate}
 use Rattle.model.specs.Limits.{old_window, row_size}
@@ -16,7 +16,7 @@ use Rattle.model.specs.step.Machine.{After, permission_fault_of, domain_fault_of
 use Rattle.model.specs.declared.Kind.{Kind}
 use Rattle.model.specs.declared.Kind.TheVariants.{Read, Write, Root, Asid, Mode, All, Addr, Ctx, AddrCtx, Fetch, Domain}
 use Rattle.model.specs.declared.Answer.TheVariants.{Done}
-use Rattle.model.proofs.CaseTools.{all_match, put, zeros, refusal_code, fault_code, answered, track_at, tables_at}
+use Rattle.model.proofs.CaseTools.{all_match, put, zeros, refusal_code, answered, track_at, tables_at}
 use Rattle.runs.specs.Quiet.{overlap, touches_tables, touches, quiet}
 use Rattle.runs.specs.Step.{extent_of, flushed_by, note_one_page, run_operate, run_stepped}
 

@@ -1,13 +1,12 @@
 -- A TLB remembers whether an entry came from a section: a section split into equal pages leaves them stale where its entry is still noted.
-use Prim.Native.Nat.{ℕ, zero, suc, ◌+◌, ◌*◌, ◌-◌, ◌/◌, ◌%◌, ◌^◌, ◌<◌}
+use Prim.Native.Nat.{ℕ, ◌+◌, ◌*◌, ◌/◌, ◌%◌, ◌<◌}
 use mathlib.Core.Path.{◌≡◌, refl, ap, ap₂, ◌∙◌}
-use mathlib.Core.Bool.{Bool, true, false, cond}
+use mathlib.Core.Bool.{Bool, true, false}
 use mathlib.Core.List.{List}
 use native.Mathlib.Omega.{arith}
-use lib.Dec.{eqb}
 use borrow.Author.Tests.{eq-eqb, ne_eqb}
 use Rattle.model.specs.Limits.{page_size}
-use Rattle.model.specs.reference.Rules.{found, failed, in_memory, value, bits, descriptor, global_by, domain_of, section, large_page, small_page, page_word, table_word, Scope, covers, one, kept, same, track_word, stale}
+use Rattle.model.specs.reference.Rules.{found, in_memory, value, bits, descriptor, global_by, domain_of, section, small_page, page_word, table_word, same, stale}
 use Rattle.model.specs.Sections.{as_page, equal_page, second_place, SectionRemembered}
 use Rattle.model.specs.declared.Entry.{Entry}
 use Rattle.model.proofs.Entries.{same_true}

@@ -113,6 +113,7 @@ pub fn root_may_change(kind: Kind, context: u32) -> bool
 }
 
 // The first that fails of the checks from that of a new root on.
+#[tactic(auto, unfolding(model::specs::step::Checks::first_failing))]
 fn check_new_values(
     root: bool,
     context: bool,
@@ -145,6 +146,7 @@ fn check_new_values(
 }
 
 // The first check that an operation fails, on a memory of m bytes and a track of t words.
+#[tactic(auto, unfolding(model::specs::step::Checks::first_failing, model::specs::step::Checks::checks))]
 pub fn check(o: Operation, r: Registers, m: usize, t: usize) -> Check
     ensures { Says (first_failing (checks o r m t)) result }
 {
@@ -180,6 +182,7 @@ pub fn check(o: Operation, r: Registers, m: usize, t: usize) -> Check
 }
 
 // The first check that a start fails.
+#[tactic(auto, unfolding(model::specs::step::Checks::first_failing, model::specs::step::Checks::start_checks))]
 pub fn check_start(m: usize, t: usize, setting: Setting) -> Check
     ensures { Says (first_failing (start_checks m t setting)) result }
 {

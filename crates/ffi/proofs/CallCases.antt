@@ -1,6 +1,6 @@
 -- The C functions, as two tables of cases computed on their definitions: which word is which field, and the numbers of answers; and a
 -- single walk.
-use Prim.Native.Nat.{ℕ, ◌+◌, ◌*◌}
+use Prim.Native.Nat.{ℕ}
 use mathlib.Core.Path.{◌≡◌, refl}
 use mathlib.Core.Bool.{true}
 use mathlib.Core.List.{List, [], ◌∷◌}

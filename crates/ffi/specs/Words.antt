@@ -1,5 +1,5 @@
 -- Operations, registers and answers as words, and the two C functions.
-use Rattle.std.specs.Prelude.{ℕ, ◌+◌, ◌<◌, ◌≡◌, Bool, true, false, cond, List, eqb, ltb, length, get_or, set}
+use Rattle.std.specs.Prelude.{ℕ, ◌+◌, ◌<◌, ◌≡◌, Bool, false, cond, List, eqb, ltb, length, get_or, set}
 use Rattle.model.specs.Numbers.{kind_number, Result, ok, fault, refused, shown}
 use Rattle.model.specs.step.Machine.{After, stepped, started}
 use Rattle.model.specs.declared.Setting.{Setting}

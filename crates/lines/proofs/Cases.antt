@@ -1,9 +1,9 @@
 -- The two ways on inputs by hand, in the limit of the programs.
-use Prim.Native.Nat.{ℕ, ◌+◌}
+use Prim.Native.Nat.{ℕ}
 use mathlib.Core.Path.{◌≡◌, refl}
 use mathlib.Core.Bool.{Bool, true, false, cond}
 use mathlib.Core.List.{List, [], ◌∷◌, ◌++◌}
-use lib.ListN.{length, replicate}
+use lib.ListN.{replicate}
 use Prim.Native.String.{String}
 use Rattle.text.specs.Split.{has, until, past, same}
 use Rattle.text.specs.Hex.{digit, digits, number, lean, spelled, value_of, glyph, spell, hex_of}

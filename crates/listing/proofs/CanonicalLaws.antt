@@ -23,11 +23,11 @@ use Rattle.listing.specs.declared.Line.{Line}
 use Rattle.listing.specs.declared.Line.TheVariants.{Op, Refused}
 use Rattle.listing.specs.declared.Values.TheVariants.{Numbers, Wrong}
 use Rattle.listing.specs.declared.Reason.{Reason}
-use Rattle.listing.specs.declared.Reason.TheVariants.{TooLong, Names, Shape, Spelling, Unknown, Unused}
+use Rattle.listing.specs.declared.Reason.TheVariants.{TooLong, Names, Shape, Unused}
 use Rattle.names.proofs.NameLaws.{name_some, comma_no_digit, newline_no_digit}
 use Rattle.names.specs.Names.{comma, newline, names, name, kinds, named_in, named_of}
 use Rattle.listing.specs.Line.{zeros, used, op_of, judged, values_of, field_a, field_b, field_c, fields_of, line_of, line_text, Valid}
-use Rattle.listing.specs.Whole.{list_limit, too_long, has_names, Ending, finished, stopped, Reading, stopped_at, nothing_left, read_line, if_empty, read_lines, read_list, Accepts, lines_text, list_text, AllValid, no_more, more, Canonical}
+use Rattle.listing.specs.Whole.{list_limit, too_long, has_names, Ending, finished, stopped, Reading, stopped_at, nothing_left, read_line, if_empty, read_lines, read_list, Accepts, lines_text, list_text, AllValid, more, Canonical}
 
 -- a refusal is no operation
 no_op : {r : Reason} {o : Operation} {A : Type 0} → Refused r ≡ Op o → A

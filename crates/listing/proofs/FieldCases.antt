@@ -3,7 +3,7 @@ use Prim.Native.Nat.{ℕ}
 use Prim.Native.String.{String}
 use mathlib.Core.Path.{◌≡◌, refl}
 use mathlib.Core.List.{List, [], ◌∷◌, map}
-use mathlib.Core.Option.{Option, some}
+use mathlib.Core.Option.{some}
 use lib.ListN.{replicate}
 use Rattle.text.specs.Split.{has, until, past, same}
 use Rattle.text.specs.Hex.{digit, digits, number, lean, spelled, value_of}

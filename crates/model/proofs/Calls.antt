@@ -1,8 +1,8 @@
 -- The first demand, and what the second asks of a single call: proved of the step.
-use Prim.Native.Nat.{ℕ, suc, ◌+◌, ◌*◌, ◌-◌, ◌/◌, ◌≤◌, ◌<◌}
-use mathlib.Core.Path.{◌≡◌, refl, sym, ap, ap₂, ◌∙◌}
+use Prim.Native.Nat.{ℕ, ◌+◌, ◌*◌, ◌-◌, ◌/◌, ◌<◌}
+use mathlib.Core.Path.{◌≡◌, refl, sym, ap, ◌∙◌}
 use mathlib.Core.Logic.{◌↔◌, ◌⊎◌, inl, inr}
-use mathlib.Core.Bool.{Bool, true, false, cond, not, ◌&&◌, ◌||◌, or-true, true≢false}
+use mathlib.Core.Bool.{Bool, true, false, cond, not, or-true, true≢false}
 use mathlib.Core.List.{List, [], ◌∷◌, ◌++◌}
 use mathlib.Core.Option.{Option, none, some}
 use native.Mathlib.Omega.{arith}
@@ -11,14 +11,14 @@ use lib.ListN.{length}
 use borrow.Author.Tests.{eqb-true, ltb-true, leb-true}
 use Rattle.model.specs.Limits.{old_split, old_window, row_size, contexts_most}
 use Rattle.model.specs.Numbers.{Result, ok, fault, refused, shown, refusal_number}
-use Rattle.model.specs.reference.Rules.{Translation, found, failed, in_memory, physical, State, fresh, aligned, access_size, touched, ruled, translated, access, set_registers, effect, outcome, carried_out, Scope, own, global, flushes, track_word, noted_in, word_after, contexts, has_row, conditions, start_conditions, Given, wrong_memory, refuses13, refuses16}
+use Rattle.model.specs.reference.Rules.{Translation, found, failed, in_memory, physical, State, fresh, aligned, access_size, touched, ruled, translated, access, set_registers, effect, outcome, carried_out, Scope, own, global, flushes, track_word, noted_in, word_after, contexts, has_row, start_conditions, Given, wrong_memory, refuses13, refuses16}
 use Rattle.model.specs.reference.Runs.{is_refused}
 use Rattle.model.specs.step.Track.{rows_of, last_row, note_track, flush_all}
 use Rattle.model.specs.step.Checks.{checks, start_checks, first_failing, context_fits, domains_fit, registers_fit, size_fits, root_fits, lengths_fit, memory_fits, track_fits}
 use Rattle.model.specs.step.Machine.{After, tables_of, size_of, access_at, read_from, write_to, read_step, write_step, fetch_step, after_checks, started_by, operate, stepped, started, start_registers, zero_registers, turned_back}
 use Rattle.model.specs.Demands.{Call, conditions_of, after, before, visible, Leaves, Total, Faithful}
 use Rattle.model.specs.Types.{Registers, Setting, Operation, Kind, Read, Write, Root, Asid, Mode, All, Addr, Ctx, AddrCtx, Fetch, Domain, Entry, Refusal, StalePage, Size, Four, Purpose, ToRead, ToWrite, ToFetch, Ruling, Allowed, PermissionDenied, DomainDenied, Check, Pass, Refuse, Access, Stale, Fails, Physical}
-use Rattle.model.proofs.BoolLaws.{push, and_both}
+use Rattle.model.proofs.BoolLaws.{push}
 use Rattle.model.proofs.Checks.{as_conditions, stale_condition, checks_same, start_checks_same}
 use Rattle.model.proofs.Track.{flush_of, noted_word, noted_length, flushed_word, flushed_length, word_after_lem}
 use Rattle.model.proofs.Effect.{state, operate_same}

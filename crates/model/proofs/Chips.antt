@@ -1,22 +1,19 @@
 -- The chip of the reference is a TLB of the theory, and the theorems that pin it.
-use Prim.Native.Nat.{ℕ, zero, suc, ◌+◌, ◌*◌, ◌/◌, ◌<◌, ◌≤◌}
-use mathlib.Core.Path.{◌≡◌, refl, sym, ap, ap₂, ◌∙◌, subst}
+use Prim.Native.Nat.{ℕ, zero, suc, ◌*◌}
+use mathlib.Core.Path.{◌≡◌, refl, sym, ap, ap₂, ◌∙◌}
 use mathlib.Core.Logic.{◌⊎◌, inl, inr}
 use mathlib.Core.Bool.{Bool, true, false, cond, ◌&&◌, true≢false}
 use mathlib.Core.Option.{Option, none, some}
-use mathlib.Core.List.{List, [], ◌∷◌, map, foldl}
-use native.Mathlib.Omega.{arith}
+use mathlib.Core.List.{[], ◌∷◌, map}
 use lib.Dec.{eqb, ltb}
-use lib.ListN.{length, get_or, set, replicate}
-use borrow.Author.Tests.{eqb-true, eqb-false, eq-eqb, ne_eqb}
-use Rattle.tlb.specs.Machine.{Walk, entry, fault}
+use lib.ListN.{get_or, set, replicate}
+use Rattle.tlb.specs.Machine.{entry}
 use Rattle.tlb.specs.Laws.{Tlb}
-use Rattle.tlb.specs.Places.{Within, NoClash, Apart}
-use Rattle.tlb.proofs.PlaceLaws.{none_some, some_same, within_none, within_dropped, within_put, within_flushed, within_kept, map_none, apart_none, apart_dropped, apart_put, apart_flushed}
+use Rattle.tlb.specs.Places.{Within}
+use Rattle.tlb.proofs.PlaceLaws.{none_some, some_same, within_none, within_dropped, within_put, within_flushed, within_kept, map_none}
 use Rattle.model.specs.Limits.{page_size, old_window, row_size}
-use Rattle.model.specs.reference.Rules.{Translation, found, failed, State, outcome, Scope, scope_of, covers, flushes, Held, Places, held_scope, matches, held_for, any_clash, Move, drop, load, is_free, put_in, move, moves, or_walk, flush_place}
+use Rattle.model.specs.reference.Rules.{Translation, found, failed, State, outcome, Scope, scope_of, covers, flushes, Held, Places, held_scope, matches, held_for, any_clash, Move, drop, load, is_free, put_in, move, or_walk, flush_place}
 use Rattle.model.specs.Types.{Operation, Entry}
-use Rattle.model.proofs.BoolLaws.{and_both}
 use Rattle.model.proofs.Instance.{as_walk, walk_of, tables, tlb_of}
 
 -- an entry held under a context and a page

@@ -1,21 +1,21 @@
 -- What an operation that passed the checks gives is what the reference's plain machine gives, unless its page is stale.
-use Prim.Native.Nat.{ℕ, suc, ◌+◌, ◌*◌, ◌-◌, ◌/◌, ◌%◌, ◌≤◌, ◌<◌}
+use Prim.Native.Nat.{ℕ, ◌+◌, ◌*◌, ◌/◌, ◌%◌}
 use mathlib.Core.Path.{◌≡◌, refl, sym, ap, ap₂, ◌∙◌}
-use mathlib.Core.Bool.{Bool, true, false, cond, not, ◌&&◌, ◌||◌, true≢false}
-use mathlib.Core.List.{List, [], ◌∷◌}
+use mathlib.Core.Bool.{Bool, true, false, cond, ◌&&◌, ◌||◌, true≢false}
+use mathlib.Core.List.{List}
 use native.Mathlib.Nat.{mul_comm}
-use lib.Dec.{eqb, leb}
+use lib.Dec.{eqb}
 use lib.ListN.{length, get_or}
-use borrow.Author.Tests.{eqb-true, eqb-false, eq-eqb, ne_eqb}
+use borrow.Author.Tests.{eqb-true}
 use Rattle.model.specs.Limits.{page_size, old_window, row_size}
-use Rattle.model.specs.Numbers.{Result, ok, fault, refused, shown, fault_number}
-use Rattle.model.specs.reference.Rules.{Translation, found, failed, in_memory, value, stored, walk, physical, permission_fault, domain_fault, ruled, field_of, ruling, State, Scope, own, global, aligned, access_size, touched, translated, access, set_registers, effect, outcome, carried_out, track_word, contexts, row_of, stale, kept, differs, among, refuses16}
+use Rattle.model.specs.Numbers.{Result, ok, fault, refused, fault_number}
+use Rattle.model.specs.reference.Rules.{value, stored, walk, physical, permission_fault, domain_fault, ruled, ruling, State, Scope, own, global, aligned, access_size, touched, translated, access, set_registers, effect, outcome, carried_out, track_word, contexts, row_of, stale, kept, differs, among, refuses16}
 use Rattle.model.specs.step.Memory.{bytes_of, within, load_at, written_at}
 use Rattle.model.specs.step.Walk.{walk_page}
 use Rattle.model.specs.step.Rights.{field_at, ruling_of}
-use Rattle.model.specs.step.Track.{note_track, last_row, word_at, stale_word, stale_page}
+use Rattle.model.specs.step.Track.{last_row, word_at, stale_word, stale_page}
 use Rattle.model.specs.step.Checks.{is_size, size_fits}
-use Rattle.model.specs.step.Machine.{After, tables_of, size_of, value_of, physical_of, permission_fault_of, domain_fault_of, reached, granted, decided, access_at, read_from, write_to, read_step, write_step, fetch_step, operate}
+use Rattle.model.specs.step.Machine.{tables_of, size_of, value_of, physical_of, permission_fault_of, domain_fault_of, reached, granted, decided, access_at, read_from, write_to, read_step, write_step, fetch_step, operate}
 use Rattle.model.specs.Demands.{visible}
 use Rattle.model.specs.Types.{Registers, Tables, Operation, Kind, Read, Write, Root, Asid, Mode, All, Addr, Ctx, AddrCtx, Fetch, Domain, Entry, Alignment, SectionDomain, PageDomain, SectionPermission, PagePermission, AccessOutside, Size, One, Two, Four, Purpose, ToRead, ToWrite, ToFetch, Ruling, Allowed, PermissionDenied, DomainDenied, Outcome, Mapped, Failed, Access, Stale, Fails, Physical}
 use Rattle.model.proofs.BoolLaws.{push}

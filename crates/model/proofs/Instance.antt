@@ -1,23 +1,19 @@
 -- The machine, the checker and the chip of the reference, as an instance of the theory of TLBs.
-use Prim.Native.Nat.{ℕ, suc, ◌+◌, ◌*◌, ◌/◌, ◌%◌, ◌<◌, ◌≤◌}
-use mathlib.Core.Path.{◌≡◌, refl, sym, ap, ap₂, ◌∙◌, fun_ext}
-use mathlib.Core.Logic.{◌↔◌, ◌⊎◌, inl, inr}
-use mathlib.Core.HLevel.{Discrete}
-use mathlib.Core.Bool.{Bool, true, false, cond, not, ◌&&◌, ◌||◌, true≢false}
+use Prim.Native.Nat.{ℕ, suc, ◌*◌, ◌/◌}
+use mathlib.Core.Path.{◌≡◌, refl, sym, ap, ◌∙◌, fun_ext}
+use mathlib.Core.Bool.{Bool, true, false, cond, ◌&&◌, ◌||◌}
 use mathlib.Core.Option.{Option, none, some}
-use mathlib.Core.List.{List, [], ◌∷◌, map}
-use native.Mathlib.Decide.{ℕ_discrete}
+use mathlib.Core.List.{List, map}
 use native.Mathlib.Omega.{arith}
 use lib.Dec.{eqb, ltb}
 use lib.ListN.{replicate}
-use borrow.Author.Tests.{eqb-true, eqb-false, eq-eqb, ne_eqb}
 use Rattle.tlb.specs.Machine.{Machine, Walk, entry, fault}
 use Rattle.tlb.specs.Chip.{Chip}
 use Rattle.tlb.specs.Tracker.{Tracker, Reply, done, refused as refusedBy}
 use Rattle.tlb.specs.Seen.{Seen, nothing, one, many}
 use Rattle.model.specs.Limits.{page_size, old_window, row_size}
 use Rattle.model.specs.Numbers.{Result, ok, fault as faulted, refused, shown}
-use Rattle.model.specs.reference.Rules.{Translation, found, failed, walk, State, fresh, aligned, accesses, access_size, translated, access, effect, outcome, carried_out, Scope, scope_of, covers, flushes, Held, Places, held_for, Move, move, or_walk, flush_place, among, Kept, empty, one as only, several}
+use Rattle.model.specs.reference.Rules.{Translation, found, failed, State, fresh, aligned, accesses, access_size, translated, access, effect, outcome, carried_out, Scope, scope_of, covers, flushes, Places, held_for, Move, move, or_walk, flush_place, among, Kept, empty, one as only, several}
 use Rattle.model.specs.reference.Runs.{is_refused}
 use Rattle.model.specs.step.Machine.{After, tables_of, stepped, started}
 use Rattle.model.specs.Invisible.{is_access, aligned_access}

@@ -1,17 +1,17 @@
 -- The checker carries out what the machine does, and its track keeps what a TLB may hold: the laws of the theory.
-use Prim.Native.Nat.{ℕ, suc, ◌+◌, ◌*◌, ◌-◌, ◌/◌, ◌%◌, ◌<◌, ◌≤◌}
+use Prim.Native.Nat.{ℕ, ◌*◌, ◌-◌, ◌/◌, ◌<◌}
 use mathlib.Core.Path.{◌≡◌, refl, sym, ap, ap₂, ◌∙◌, subst}
-use mathlib.Core.Logic.{◌↔◌, ◌⊎◌, inl, inr}
+use mathlib.Core.Logic.{◌↔◌}
 use mathlib.Core.Bool.{Bool, true, false, cond, not, ◌&&◌, ◌||◌, true≢false}
 use mathlib.Core.Option.{Option, none, some}
-use mathlib.Core.List.{List, [], ◌∷◌, ◌++◌}
+use mathlib.Core.List.{List, [], ◌∷◌}
 use native.Mathlib.Omega.{arith}
 use lib.Dec.{eqb, ltb}
 use lib.ListN.{length}
-use borrow.Author.Tests.{eqb-true, eqb-false, eq-eqb, ne_eqb, ltb-true, ltb-false, lt-ltb, le-ltb}
-use Rattle.tlb.specs.Machine.{Walk, entry, fault}
-use Rattle.tlb.specs.Tracker.{Reply, done, refused as refusedBy}
-use Rattle.tlb.specs.Seen.{Seen, nothing, one, many, note, spared, Stale}
+use borrow.Author.Tests.{eqb-true, eqb-false, eq-eqb, ne_eqb, ltb-true, lt-ltb}
+use Rattle.tlb.specs.Machine.{entry}
+use Rattle.tlb.specs.Tracker.{done, refused as refusedBy}
+use Rattle.tlb.specs.Seen.{Seen, nothing, note, spared, Stale}
 use Rattle.tlb.specs.Laws.{Carries, Keeps}
 use Rattle.tlb.specs.Words.{add_word, differs_from, Coding}
 use Rattle.tlb.proofs.WordLaws.{seen_added, stale_iff_lem}
@@ -21,16 +21,16 @@ use Rattle.model.specs.reference.Rules.{Translation, found, failed, bits, walk, 
 use Rattle.model.specs.reference.Runs.{is_refused}
 use Rattle.model.specs.step.Walk.{walk_page}
 use Rattle.model.specs.step.Checks.{checks, first_failing, address_fits}
-use Rattle.model.specs.step.Machine.{After, tables_of, stepped, started}
-use Rattle.model.specs.Demands.{Call, conditions_of, after, before, visible, Leaves}
-use Rattle.model.specs.Types.{Registers, Setting, Operation, Kind, Read, Write, Root, Asid, Mode, All, Addr, Ctx, AddrCtx, Fetch, Domain, Entry, Refusal, Check, Pass, Refuse, Outcome, Mapped, Failed}
+use Rattle.model.specs.step.Machine.{After, tables_of, started}
+use Rattle.model.specs.Demands.{Call, conditions_of, after}
+use Rattle.model.specs.Types.{Setting, Operation, Kind, Read, Write, Root, Asid, Mode, All, Addr, Ctx, AddrCtx, Fetch, Domain, Entry, Refusal, Check, Pass, Refuse, Outcome, Mapped, Failed}
 use Rattle.model.proofs.BoolLaws.{and_both}
 use Rattle.model.proofs.Walk.{translation, walk_same}
 use Rattle.model.proofs.Entries.{Fits, same_true, same_false, entry_discrete, decoded}
 use Rattle.model.proofs.Words.{InRange, walk_range}
-use Rattle.model.proofs.Checks.{as_conditions, stale_condition, checks_same}
-use Rattle.model.proofs.Calls.{first_holding, given_first, first_given, none_some, not_refused, never_refused, exactly, plain, words, unchanged, track_length_lem, start_exactly_lem, start_plain, start_words_lem, start_track_length_lem, Begun, begun, back, done as accepted, Passed, call_passes, passed_call, Hold, passed, checks_of, conditions_by, or_else, none_holds}
-use Rattle.model.proofs.Instance.{as_walk, of_walk, page_of, walk_of, carry_of, tables, reply_of, state_of, call_of, checker, seen_of, outcome_page, carry_plain, one_page_lem}
+use Rattle.model.proofs.Checks.{stale_condition}
+use Rattle.model.proofs.Calls.{first_holding, given_first, first_given, none_some, not_refused, exactly, plain, words, unchanged, track_length_lem, start_exactly_lem, start_plain, start_words_lem, start_track_length_lem, Begun, begun, back, done as accepted, call_passes, passed_call, Hold, passed, checks_of, conditions_by, or_else}
+use Rattle.model.proofs.Instance.{as_walk, page_of, walk_of, carry_of, tables, reply_of, state_of, call_of, checker, seen_of, outcome_page, carry_plain, one_page_lem}
 
 -- ── A call as the theory sees it ──
 

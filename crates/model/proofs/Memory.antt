@@ -1,11 +1,9 @@
 -- The step reads and stores numbers as the reference does.
-use Prim.Native.Nat.{ℕ, zero, suc, ◌+◌, ◌*◌, ◌/◌, ◌%◌}
-use mathlib.Core.Path.{◌≡◌, refl, sym, ap, ap₂, ◌∙◌}
-use mathlib.Core.Bool.{Bool}
+use Prim.Native.Nat.{ℕ, ◌+◌, ◌*◌, ◌/◌}
+use mathlib.Core.Path.{◌≡◌, refl, ap, ap₂, ◌∙◌}
 use mathlib.Core.List.{List}
 use native.Mathlib.Omega.{arith}
 use native.Mathlib.Numerals.{add-one, add-two}
-use lib.ListN.{get_or, set}
 use Rattle.model.specs.reference.Rules.{in_memory, value, stored}
 use Rattle.model.specs.step.Memory.{bytes_of, within, number_at, half_at, stored_at, half_stored}
 use Rattle.model.specs.Types.{Size, One, Two, Four}

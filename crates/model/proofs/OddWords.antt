@@ -1,5 +1,5 @@
 -- Words of the track that are neither 0 nor the word of an entry that suits its row.
-use Prim.Native.Nat.{ℕ, suc, ◌+◌, ◌*◌, ◌-◌, ◌/◌, ◌%◌, ◌^◌, ◌<◌}
+use Prim.Native.Nat.{ℕ, ◌*◌, ◌<◌}
 use mathlib.Core.Path.{◌≡◌, refl, sym, ap, ◌∙◌}
 use mathlib.Core.Bool.{Bool, true, false, cond, ◌&&◌, ◌||◌}
 use mathlib.Core.List.{List}
@@ -7,7 +7,7 @@ use native.Mathlib.Omega.{arith}
 use lib.Dec.{eqb}
 use borrow.Author.Tests.{eqb-true, ne_eqb}
 use Rattle.model.specs.Limits.{page_size, old_window, row_size}
-use Rattle.model.specs.reference.Rules.{Translation, found, failed, bits, State, carried_out, outcome, Scope, own, global, scope_of, covers, same_scope, flushes, Kept, empty, one, several, word_of, entry_of, suits, kept, add_to, noted, differs, noted_in, word_after, track_word, stale, has_row, conditions, Given}
+use Rattle.model.specs.reference.Rules.{Translation, found, failed, bits, State, carried_out, outcome, Scope, own, global, scope_of, covers, same_scope, flushes, one, several, word_of, entry_of, suits, kept, add_to, noted, differs, noted_in, word_after, track_word, stale, has_row, Given}
 use Rattle.model.specs.Demands.{Call, conditions_of, after, before, OddWords}
 use Rattle.model.specs.Types.{Entry}
 use Rattle.model.proofs.BoolLaws.{either}

@@ -1,26 +1,24 @@
 -- The theorems that pin the chip and the operations.
 use Prim.Native.Nat.{ℕ, zero, suc, ◌*◌, ◌/◌, ◌<◌}
-use mathlib.Core.Path.{◌≡◌, refl, sym, ap, ap₂, ◌∙◌, subst}
+use mathlib.Core.Path.{◌≡◌, refl, sym, ap, ap₂, ◌∙◌}
 use mathlib.Core.Logic.{◌⊎◌, inl, inr}
 use mathlib.Core.Bool.{Bool, true, false, cond, ◌&&◌, ◌||◌, true≢false}
 use mathlib.Core.Option.{Option, none, some}
-use mathlib.Core.List.{List, [], ◌∷◌, map, foldl}
-use native.Mathlib.Omega.{arith}
+use mathlib.Core.List.{List, [], ◌∷◌, map}
 use lib.Dec.{eqb, ltb}
 use lib.ListN.{length, get_or, set, replicate, length-set, length-map, length-replicate}
-use lib.Seq.{get_or-set_same, get_or-set_other, set_out}
+use lib.Seq.{get_or-set_same, get_or-set_other}
 use borrow.Author.Tests.{eqb-true, eqb-false, eq-eqb, ne_eqb, lt-ltb}
 use Rattle.tlb.specs.Places.{Within, NoClash, Apart}
 use Rattle.tlb.proofs.PlaceLaws.{none_some, some_same, apart_none, apart_dropped, apart_put, apart_flushed}
 use Rattle.model.specs.Limits.{page_size, old_window, row_size}
-use Rattle.model.specs.Numbers.{Result, fault, shown}
-use Rattle.model.specs.reference.Rules.{Translation, found, failed, State, fresh, aligned, accesses, access_size, access, translated, effect, outcome, among, Scope, own, global, covers, Held, Places, held_scope, matches, held_for, meet, clash, any_clash, Move, drop, load, is_free, put_in, move, moves, or_walk, chip_outcome, flush_place, chip_step}
-use Rattle.model.specs.reference.Runs.{last, Moment, chip_start, chip_next, chip_run, chip_seen, seen, is_refused, Holds}
-use Rattle.model.specs.step.Machine.{After}
-use Rattle.model.specs.Invisible.{Session, begun, Accepted, checker_run_of, chip_start_of, chip_run_of, held_by, loaded_now, at_end, plain_end, aligned_access, checker, Pinned}
+use Rattle.model.specs.Numbers.{Result, fault}
+use Rattle.model.specs.reference.Rules.{Translation, found, failed, State, aligned, accesses, access_size, access, translated, effect, outcome, among, Scope, own, global, covers, Held, Places, held_scope, matches, held_for, meet, clash, any_clash, Move, drop, load, is_free, put_in, move, moves, or_walk, chip_outcome, flush_place, chip_step}
+use Rattle.model.specs.reference.Runs.{last, Moment, chip_start, chip_next, chip_run, chip_seen, Holds}
+use Rattle.model.specs.Invisible.{Session, begun, Accepted, checker_run_of, chip_start_of, chip_run_of, held_by, loaded_now, plain_end, aligned_access, checker, Pinned}
 use Rattle.model.specs.Types.{Operation, Kind, Read, Write, Root, Asid, Mode, All, Addr, Ctx, AddrCtx, Fetch, Domain, Entry, Purpose, ToRead, ToWrite, ToFetch}
 use Rattle.model.proofs.BoolLaws.{and_both}
-use Rattle.model.proofs.Instance.{state_of, outcome_page, effect_page, access_parts}
+use Rattle.model.proofs.Instance.{outcome_page, effect_page, access_parts}
 use Rattle.model.proofs.Chips.{held, flush_leaves, free_none}
 use Rattle.model.proofs.Moves.{no_moves, one_move_lem, moves_in_turn, moves_at_first_lem, moves_after_refused_lem, moves_after_carried_lem, moves_by_the_script}
 use Rattle.model.proofs.ThirdDemand.{holds_within, within_holds, same_begins, same_chip, plain_end_lem, last_seen}

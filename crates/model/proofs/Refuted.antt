@@ -1,25 +1,25 @@
 -- Wrong checkers refuted: the third demand does not hold of them. What takes longer to compute stands in the crate `cases`.
-use Prim.Native.Nat.{ℕ, zero, suc, ◌+◌, ◌*◌, ◌/◌, ◌<◌, ◌≤◌}
+use Prim.Native.Nat.{ℕ, zero, suc, ◌*◌, ◌/◌, ◌<◌}
 use mathlib.Core.Path.{◌≡◌, refl, sym, ap, ap₂, ◌∙◌, subst}
 use mathlib.Core.Logic.{◌↔◌, ◌⊎◌, inl, inr}
-use mathlib.Core.Bool.{Bool, true, false, cond, ◌&&◌, ◌||◌, true≢false}
+use mathlib.Core.Bool.{Bool, true, false, cond, ◌&&◌, true≢false}
 use mathlib.Core.Option.{Option, none, some}
 use mathlib.Core.List.{List, [], ◌∷◌, map}
 use native.Mathlib.Decide.{ℕ_discrete}
 use native.Mathlib.Omega.{arith}
-use lib.Dec.{eqb, ltb, leb}
+use lib.Dec.{eqb, ltb}
 use lib.ListN.{length, set, replicate}
 use borrow.Author.Tests.{eqb-true, lt-ltb}
 use Rattle.tlb.specs.Places.{Within}
 use Rattle.tlb.proofs.PlaceLaws.{within_none, within_dropped}
 use Rattle.model.specs.Limits.{page_size, old_window, row_size, root_alignment, address_limit}
 use Rattle.model.specs.Numbers.{Result, ok, fault, refused, shown, refusal_number}
-use Rattle.model.specs.reference.Rules.{Translation, found, failed, State, rooted, fresh, aligned, accesses, access_size, outcome, set_registers, effect, carried_out, plain_step, track_word, Scope, own, global, scope_of, covers, Held, Places, held_scope, matches, held_for, any_clash, Move, drop, load, is_free, put_in, move, moves, chip_step, flush_place, flushes, walk, descriptor, table_word, global_by, domain_of, section, bits, value, in_memory, conditions, start_conditions, Given, among, contexts, has_row, refuses7, refuses8, refuses9, refuses10, refuses11, refuses12, refuses13, refuses14, refuses15, refuses16, refuses17, refuses20, field_of, some_field2, stale, kept, differs, noted, noted_in, chip_outcome, or_walk}
-use Rattle.model.specs.reference.Runs.{last, Checker, next, checker_run, is_refused, told, seen, plain_run, Moment, chip_start, chip_next, chip_run, chip_seen, Holds}
-use Rattle.model.specs.step.Checks.{is_size, size_fits, first_failing}
+use Rattle.model.specs.reference.Rules.{found, failed, State, rooted, fresh, aligned, accesses, access_size, outcome, set_registers, effect, carried_out, plain_step, track_word, Scope, own, global, scope_of, covers, Held, Places, held_scope, matches, held_for, any_clash, Move, drop, load, is_free, put_in, move, moves, chip_step, flush_place, flushes, walk, descriptor, table_word, global_by, domain_of, section, bits, value, in_memory, conditions, start_conditions, Given, among, contexts, has_row, refuses7, refuses8, refuses9, refuses10, refuses11, refuses12, refuses13, refuses14, refuses15, refuses16, refuses17, refuses20, field_of, some_field2, stale, kept, differs, noted, noted_in, chip_outcome, or_walk}
+use Rattle.model.specs.reference.Runs.{last, Checker, next, checker_run, is_refused, told, seen, plain_run, chip_start, chip_next, chip_run, chip_seen, Holds}
+use Rattle.model.specs.step.Checks.{size_fits, first_failing}
 use Rattle.model.specs.step.Machine.{After, started, stepped}
 use Rattle.model.specs.Demands.{Call, after}
-use Rattle.model.specs.Invisible.{Session, begun, Accepted, checker_run_of, told_of, chip_start_of, chip_run_of, plain_end, at_end, is_access, aligned_access, CouldDiffer, Same, Exactly, Invisible, checker}
+use Rattle.model.specs.Invisible.{Session, begun, Accepted, told_of, chip_start_of, plain_end, at_end, is_access, aligned_access, CouldDiffer, Exactly, Invisible, checker}
 use Rattle.model.specs.Wrong.{SameBegins, SamePlain, SameChip, StaleOnlyThen, StaleAlwaysThen, StartsInUserMode, SaysStaleAtOnce, Orderly, Copies, NeverStale, GoesByTrack, AlikeBut, LooksElsewhere}
 use Rattle.model.specs.Types.{Registers, Setting, Operation, Kind, Read, Write, Root, Asid, Mode, All as AllSets, Addr, Ctx, AddrCtx, Fetch, Domain, Entry, Pass}
 use Rattle.model.proofs.BoolLaws.{and_both, three_or}

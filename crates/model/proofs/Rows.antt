@@ -7,10 +7,10 @@ use native.Mathlib.Nat.{le_of_suc-le-suc, not-suc-le-zero, add-zero, add-suc, su
 use mathlib.Core.Logic.{◌⊎◌, inl, inr}
 use native.Mathlib.Omega.{arith}
 use lib.Dec.{eqb, leb, ltb}
-use lib.ListN.{length, get_or, take, drop, length-append, length-take, length-drop, get_or-append}
+use lib.ListN.{length, get_or, take, drop, length-append, length-drop, get_or-append}
 use lib.Seq.{get_or-append-add, get_or-drop, get_or-take, length-take-le}
-use borrow.Author.Tests.{le-leb, leb-true, leb-false, eqb-true, eqb-false, eq-eqb, ne_eqb, le-ltb, lt-ltb}
-use Rattle.model.specs.step.Rows.{map_first, map_words, in_part, in_row, each_row}
+use borrow.Author.Tests.{le-leb, leb-true, leb-false, eqb-true, eqb-false, le-ltb, lt-ltb}
+use Rattle.model.specs.step.Rows.{map_first, map_words, in_row, each_row}
 use Rattle.model.proofs.BoolLaws.{leb_same}
 
 module _ (f : ℕ → ℕ → ℕ) where

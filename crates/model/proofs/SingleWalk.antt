@@ -1,5 +1,5 @@
 -- The walk of one address as one number is that of the rules.
-use Prim.Native.Nat.{ℕ, ◌+◌, ◌*◌, ◌/◌, ◌%◌, ◌<◌}
+use Prim.Native.Nat.{ℕ, ◌/◌, ◌%◌, ◌<◌}
 use mathlib.Core.Path.{◌≡◌, refl, sym, ap, ◌∙◌}
 use mathlib.Core.Bool.{Bool, true, false, cond, not}
 use mathlib.Core.List.{List, [], ◌∷◌}
@@ -9,7 +9,7 @@ use lib.Dec.{eqb, leb}
 use lib.ListN.{length}
 use Rattle.model.specs.Limits.{page_size, old_split, old_window, memory_unit, memory_most}
 use Rattle.model.specs.Numbers.{fault_number}
-use Rattle.model.specs.reference.Rules.{among, wrong_memory, refuses8, walk_conditions, Given, walk, translation_number, refused_walk}
+use Rattle.model.specs.reference.Rules.{among, refuses8, walk_conditions, Given, walk, translation_number, refused_walk}
 use Rattle.model.specs.step.Checks.{memory_fits, root_fits, in_window}
 use Rattle.model.specs.step.Walk.{walk_page}
 use Rattle.model.specs.step.WalkAnswer.{outcome_number, walk_answer}
@@ -19,7 +19,7 @@ use Rattle.model.proofs.BoolLaws.{three_and}
 use Rattle.model.proofs.Checks.{window_test, root_test}
 use Rattle.model.proofs.Walk.{translation, walk_same}
 use Rattle.model.proofs.Words.{InRange, word_same, walk_range}
-use Rattle.model.proofs.Calls.{first_holding, given_first, first_given, none_some}
+use Rattle.model.proofs.Calls.{first_holding, given_first, first_given}
 
 -- a refusal by the first condition that holds, or what the walk finds
 abbrev number_by : Option ℕ → ℕ → ℕ

@@ -3,7 +3,7 @@ use Prim.Native.Nat.{ℕ, ◌+◌}
 use mathlib.Core.Path.{◌≡◌, refl, sym, ap}
 use mathlib.Core.Logic.{◌⊎◌, inl, inr}
 use mathlib.Core.List.{List}
-use mathlib.Core.Option.{Option, none, some, some-injective}
+use mathlib.Core.Option.{none, some, some-injective}
 use Rattle.model.specs.Numbers.{Result, shown, first_fault, access_result}
 use Rattle.model.specs.Telling.{Tells}
 use Rattle.model.specs.step.Machine.{read_from, write_to}

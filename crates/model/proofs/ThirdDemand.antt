@@ -1,32 +1,30 @@
 -- The third demand, proved of the step through the theory of TLBs.
 use Prim.Native.Nat.{ℕ, suc, ◌*◌, ◌/◌}
 use mathlib.Core.Path.{◌≡◌, refl, sym, ap, ap₂, ◌∙◌, subst, subst₃, fun_ext}
-use mathlib.Core.Logic.{◌↔◌, ◌⊎◌, inl, inr}
-use mathlib.Core.Bool.{Bool, true, false, cond, ◌&&◌, ◌||◌, true≢false}
+use mathlib.Core.Logic.{◌↔◌, inl, inr}
+use mathlib.Core.Bool.{Bool, true, false, cond, ◌&&◌, true≢false}
 use mathlib.Core.Option.{Option, none, some}
-use mathlib.Core.List.{List, [], ◌∷◌, map, foldl}
-use lib.Dec.{eqb, ltb}
+use mathlib.Core.List.{List, [], ◌∷◌, map}
+use lib.Dec.{eqb}
 use lib.ListN.{replicate}
-use borrow.Author.Tests.{eqb-true, eq-eqb}
-use Rattle.tlb.specs.Machine.{Walk, entry}
-use Rattle.tlb.specs.Chip.{Chip, plain, chip_step as step_of, held_after, moves as moves_of, held_next, trace, held_at_end}
-use Rattle.tlb.specs.Tracker.{Reply, done, refused as refusedBy, answer, is_refused as isRefusedReply, told as toldBy, own_trace, end_state, end_track, CanDiffer}
+use Rattle.tlb.specs.Machine.{entry}
+use Rattle.tlb.specs.Chip.{plain, chip_step as step_of, held_after, moves as moves_of, held_next, trace, held_at_end}
+use Rattle.tlb.specs.Tracker.{refused as refusedBy, answer, is_refused as isRefusedReply, told as toldBy, own_trace, end_state, end_track, CanDiffer}
 use Rattle.tlb.specs.Places.{Within}
 use Rattle.tlb.proofs.Agree.{agrees, plain_sound}
 use Rattle.tlb.proofs.TlbSound.{tlb_sound}
 use Rattle.tlb.proofs.Exact.{exact}
-use Rattle.model.specs.Limits.{page_size, row_size}
+use Rattle.model.specs.Limits.{page_size}
 use Rattle.model.specs.Numbers.{Result, ok, fault, refused, shown}
-use Rattle.model.specs.reference.Rules.{Translation, found, failed, State, fresh, aligned, effect, outcome, carried_out, plain_step, Scope, covers, Held, Places, held_scope, matches, held_for, Move, move, moves, or_walk, chip_outcome, flush_place, chip_step, among}
+use Rattle.model.specs.reference.Rules.{Translation, found, failed, State, fresh, effect, outcome, plain_step, Scope, covers, Held, Places, held_scope, matches, held_for, Move, move, moves, or_walk, chip_outcome, flush_place, chip_step}
 use Rattle.model.specs.reference.Runs.{last, next, checker_run, is_refused, seen, told, plain_run, Moment, chip_start, chip_next, chip_run, chip_seen, Holds}
-use Rattle.model.specs.step.Machine.{After, stepped, started}
+use Rattle.model.specs.step.Machine.{After}
 use Rattle.model.specs.Invisible.{Session, begun, Accepted, checker_run_of, told_of, plain_run_of, chip_start_of, chip_run_of, Same, at_end, plain_end, aligned_access, CouldDiffer, Exactly, Invisible, checker}
-use Rattle.model.specs.Types.{Operation, Kind, Read, Write, Entry}
-use Rattle.model.proofs.BoolLaws.{and_both}
+use Rattle.model.specs.Types.{Operation, Entry}
 use Rattle.model.proofs.Instance.{as_walk, of_walk, of_as, page_of, walk_of, carry_of, tables, reply_of, state_of, call_of, checker as theory, tlb_of, outcome_page, carry_plain, access_parts}
 use Rattle.model.proofs.Kept.{begins, carries, keeps}
 use Rattle.model.proofs.Moves.{moves_in_turn}
-use Rattle.model.proofs.Chips.{held, HoldsIn, tlb_laws}
+use Rattle.model.proofs.Chips.{HoldsIn, tlb_laws}
 
 -- ── The checker's run ──
 

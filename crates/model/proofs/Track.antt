@@ -1,8 +1,8 @@
 -- The whole track: noting and flushing leave in each word what the reference says of its scope and page.
-use Prim.Native.Nat.{ℕ, suc, ◌+◌, ◌*◌, ◌-◌, ◌/◌, ◌%◌, ◌≤◌, ◌<◌}
-use mathlib.Core.Path.{◌≡◌, refl, sym, ap, ap₂, ◌∙◌}
+use Prim.Native.Nat.{ℕ, suc, ◌+◌, ◌*◌, ◌-◌, ◌/◌, ◌≤◌, ◌<◌}
+use mathlib.Core.Path.{◌≡◌, refl, sym, ap, ◌∙◌}
 use mathlib.Core.Bool.{Bool, true, false, cond, ◌&&◌}
-use mathlib.Core.List.{List, []}
+use mathlib.Core.List.{List}
 use native.Mathlib.Nat.{mul_comm, suc-mul, mul-le-mul_right, div-mul-le_self}
 use native.Mathlib.Omega.{arith}
 use lib.Dec.{eqb, ltb}
@@ -10,11 +10,11 @@ use lib.ListN.{length, get_or, set, length-set}
 use lib.Seq.{get_or-set_same, get_or-set_other}
 use borrow.Author.Tests.{eqb-true, eqb-false, eq-eqb, ne_eqb, lt-ltb, ltb-true}
 use Rattle.model.specs.Limits.{page_size, row_size}
-use Rattle.model.specs.reference.Rules.{walk, State, fresh, outcome, Scope, own, global, covers, flushes, noted, noted_in, word_after, track_word, contexts, row_of, has_row}
+use Rattle.model.specs.reference.Rules.{walk, outcome, Scope, own, global, covers, flushes, noted, noted_in, word_after, track_word, contexts, row_of, has_row}
 use Rattle.model.specs.step.Walk.{walk_page}
-use Rattle.model.specs.step.Rows.{map_words, in_row, each_row}
+use Rattle.model.specs.step.Rows.{in_row, each_row}
 use Rattle.model.specs.step.Checks.{context_fits}
-use Rattle.model.specs.step.Track.{add_outcome, note_page, note_row, last_row, note_track, empty_page, empty_row, flush_all, flush_page, flush_context, flush_page_in}
+use Rattle.model.specs.step.Track.{note_page, last_row, note_track, empty_page, empty_row, flush_all, flush_page, flush_context, flush_page_in}
 use Rattle.model.specs.step.Machine.{tables_of}
 use Rattle.model.specs.Types.{Registers, Tables, Operation, Kind, Read, Write, Root, Asid, Mode, All, Addr, Ctx, AddrCtx, Fetch, Domain}
 use Rattle.model.proofs.Walk.{translation, walk_same}

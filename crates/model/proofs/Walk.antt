@@ -1,5 +1,5 @@
 -- The step's walk by page is the reference's walk by address.
-use Prim.Native.Nat.{ℕ, suc, ◌+◌, ◌*◌, ◌-◌, ◌/◌, ◌%◌, ◌^◌, ◌<◌}
+use Prim.Native.Nat.{ℕ, ◌+◌, ◌*◌, ◌-◌, ◌/◌, ◌%◌, ◌<◌}
 use mathlib.Core.Path.{◌≡◌, refl, sym, ap, ◌∙◌}
 use mathlib.Core.Bool.{Bool, true, false, cond, ◌&&◌}
 use mathlib.Core.List.{List}
@@ -8,10 +8,10 @@ use lib.Dec.{eqb}
 use borrow.Author.Tests.{eqb-true, eqb-false}
 use Rattle.model.specs.Limits.{page_size, section_size}
 use Rattle.model.specs.Numbers.{fault_number}
-use Rattle.model.specs.reference.Rules.{Translation, found, failed, in_memory, value, bits, descriptor, global_by, domain_of, section, large_page, small_page, page_word, table_word, walk}
+use Rattle.model.specs.reference.Rules.{Translation, found, failed, value, bits, descriptor, global_by, domain_of, section, large_page, small_page, page_word, table_word, walk}
 use Rattle.model.specs.step.Memory.{within, number_at, load_at}
 use Rattle.model.specs.step.Walk.{kind_of, super_bit, pointer_of, first_domain, section_entry, large_entry, small_entry, descriptor_at, first_of, first_from, first_at, second_of, second_from, second_at, walk_from, walk_page}
-use Rattle.model.specs.Types.{Entry, FirstUnmapped, SecondUnmapped, Four, Loaded, Value, Outside, Pointer, FirstLevel, Failing, Table, Section, Tables, Outcome, Mapped, Failed}
+use Rattle.model.specs.Types.{Entry, FirstUnmapped, SecondUnmapped, Four, Value, Outside, Pointer, Failing, Table, Section, Tables, Outcome, Mapped, Failed}
 use Rattle.model.proofs.BoolLaws.{push}
 use Rattle.model.proofs.Memory.{within_same, number_same}
 

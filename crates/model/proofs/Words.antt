@@ -1,5 +1,5 @@
 -- One word of the track: the step's adding and its stale test are the reference's.
-use Prim.Native.Nat.{ℕ, suc, ◌+◌, ◌*◌, ◌-◌, ◌/◌, ◌%◌, ◌^◌, ◌<◌, ◌≤◌}
+use Prim.Native.Nat.{ℕ, ◌+◌, ◌*◌, ◌/◌, ◌%◌, ◌<◌, ◌≤◌}
 use mathlib.Core.Path.{◌≡◌, refl, sym, ap, ap₂, ◌∙◌}
 use mathlib.Core.Bool.{Bool, true, false, cond, not, ◌&&◌, true≢false}
 use mathlib.Core.List.{List}
@@ -8,11 +8,10 @@ use lib.Dec.{eqb, ltb}
 use borrow.Author.Tests.{eqb-true, eqb-false, eq-eqb, ne_eqb, ltb-true, ltb-false}
 use Rattle.model.specs.Limits.{word_limit}
 use Rattle.model.specs.Numbers.{fault_number}
-use Rattle.model.specs.reference.Rules.{Translation, found, failed, bits, Scope, own, global, scope_of, covers, same_scope, Kept, empty, one, several, word_of, entry_of, suits, kept, same, add_to, noted, differs}
-use Rattle.model.specs.step.Memory.{load_at}
+use Rattle.model.specs.reference.Rules.{Translation, found, failed, bits, Scope, own, global, scope_of, covers, same_scope, empty, one, several, word_of, entry_of, suits, kept, same, add_to, noted, differs}
 use Rattle.model.specs.step.Walk.{kind_of, super_bit, pointer_of, first_domain, first_of, first_from, first_at, second_of, second_from, second_at, walk_from, walk_page, section_entry, large_entry, small_entry, descriptor_at}
 use Rattle.model.specs.step.Track.{entry_word, is_entry, add_entry, add_outcome, stale_word}
-use Rattle.model.specs.Types.{Entry, FirstUnmapped, SecondUnmapped, Loaded, Value, Outside, FirstLevel, Failing, Table, Section, Tables, Outcome, Mapped, Failed}
+use Rattle.model.specs.Types.{Entry, FirstUnmapped, SecondUnmapped, Loaded, Value, Outside, Failing, Table, Section, Tables, Outcome, Mapped, Failed}
 use Rattle.model.proofs.BoolLaws.{same_test, eqb_same, either, and_both}
 use Rattle.model.proofs.Entries.{Fits, same_true, same_self, decoded}
 use Rattle.model.proofs.Walk.{translation}

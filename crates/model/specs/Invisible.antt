@@ -3,7 +3,7 @@ use Rattle.std.specs.Prelude.{ℕ, suc, ◌*◌, ◌/◌, ◌<◌, ◌≡◌, �
 use Rattle.std.proofs.Math.Option.{Option, none, some}
 use Rattle.model.specs.Limits.{page_size, old_window, row_size}
 use Rattle.model.specs.Numbers.{Result, ok, fault, refused, shown}
-use Rattle.model.specs.reference.Rules.{Translation, found, failed, State, fresh, effect, outcome, aligned, among, access_size, Scope, global, Held, Places, held_scope, matches, Move, drop, load, move, moves, chip_outcome, flush_place}
+use Rattle.model.specs.reference.Rules.{Translation, found, failed, State, fresh, effect, outcome, aligned, among, access_size, global, Held, Places, held_scope, matches, Move, drop, load, move, moves, chip_outcome, flush_place}
 use Rattle.model.specs.reference.Runs.{last, Checker, next, checker_run, is_refused, seen, told, plain_run, Moment, chip_start, chip_next, chip_run, chip_seen, Holds}
 use Rattle.model.specs.step.Machine.{After, started, stepped}
 use Rattle.model.specs.Types.{Setting, Operation, Read, Write, Fetch, Entry}

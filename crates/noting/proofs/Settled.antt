@@ -1,5 +1,5 @@
 -- Laws of words and rows that noting leaves as they are.
-use Prim.Native.Nat.{ℕ, ◌+◌, ◌≤◌, ◌<◌}
+use Prim.Native.Nat.{ℕ, ◌+◌, ◌<◌}
 use mathlib.Core.Path.{◌≡◌, refl, sym, ap, ◌∙◌}
 use mathlib.Core.Bool.{Bool, true, false, cond}
 use mathlib.Core.List.{List}
@@ -9,7 +9,7 @@ use borrow.Author.Tests.{eqb-true}
 use Rattle.model.specs.declared.Entry.{Entry}
 use Rattle.model.specs.declared.Outcome.{Outcome}
 use Rattle.model.specs.declared.Outcome.TheVariants.{Mapped}
-use Rattle.model.specs.step.Rows.{map_first, map_words}
+use Rattle.model.specs.step.Rows.{map_first}
 use Rattle.model.specs.step.Track.{entry_word, add_entry, add_outcome}
 use Rattle.noting.specs.Mib.{word_for, Stays, Both}
 use Rattle.track.proofs.Rows.{still_turn}

@@ -3,22 +3,23 @@
 #![tactic(auto)]
 
 ghost use Rattle.std.specs.Prelude.{◌≡◌, length};
-ghost use Rattle.io.specs.Counts.{IsPrefixLen};
+ghost use Rattle.std.specs.Counts.{IsPrefixLen};
 
 use input::Got;
-use libc::{STDIN_FILENO, STDOUT_FILENO};
 use report::Told;
+use std::io::Read;
 
 // The list, which is looked at only after a start that is accepted.
-fn read_list(wanted: bool, buf: &mut [u8]) -> Got
+fn read_list<R: Read>(wanted: bool, list: &mut R, buf: &mut [u8]) -> Got
     ensures { IsPrefixLen result.count buf.new }
 {
     if wanted {
-        return input::read_whole(STDIN_FILENO, buf);
+        return input::read_whole(list, buf);
     }
     Got {
         count: 0,
         whole: true,
+        error: None,
     }
 }
 
@@ -49,28 +50,32 @@ fn report_buffer() -> [u8; 262272]
 }
 
 // Writes the report of an image buffer of which n bytes were read and a list buffer of which k were.
-fn print_report(image: &mut [u8], n: usize, list: &[u8], k: usize) {
+fn print_report(
+    rt: &(impl Print + Eprint + AllocGlobal),
+    image: &mut [u8],
+    n: usize,
+    list: &[u8],
+    k: usize,
+) {
     let mut track = track_buffer();
     let mut out = report_buffer();
     if let Told::Report(size) = report::write_report(image, n, list, k, &mut track, &mut out) {
-        if !io::write_all(STDOUT_FILENO, &out[..size]) {
-            os::fail(b"replay: the report cannot be written");
-        }
+        output::write_or_fail(rt, &out[..size], "replay: the report cannot be written");
     }
 }
 
-fn main() {
+fn main(rt: HostRuntime) {
     let mut image = image_buffer();
-    let got = input::read_image(&mut image);
+    let got = input::read_image(&rt, &mut image);
     if !got.whole {
-        os::fail(b"replay: image.bin was not read to its end");
+        output::fail(&rt, "replay: image.bin was not read to its end", got.error);
         return;
     }
     let mut list = list_buffer();
-    let read = read_list(report::looks_at_list(got.count), &mut list);
+    let read = read_list(report::looks_at_list(got.count), &mut rt.stdin(), &mut list);
     if !read.whole {
-        os::fail(b"replay: the list was not read to its end");
+        output::fail(&rt, "replay: the list was not read to its end", read.error);
         return;
     }
-    print_report(&mut image, got.count, &list, read.count);
+    print_report(&rt, &mut image, got.count, &list, read.count);
 }

@@ -1,17 +1,13 @@
 -- Laws of the report's lines, and what holds at each turn of the loop that writes them. Assumes nothing.
-use Prim.Native.Nat.{ℕ, zero, suc, ◌+◌, ◌*◌, ◌≤◌, ◌<◌}
-use mathlib.Core.Path.{◌≡◌, refl, ap, ap₂, sym, ◌∙◌}
-use mathlib.Core.List.{List, [], ◌∷◌, ◌++◌, append_assoc, append-nil}
+use Prim.Native.Nat.{ℕ, zero, suc, ◌≤◌, ◌<◌}
+use mathlib.Core.Path.{◌≡◌, refl, ap, ◌∙◌}
+use mathlib.Core.List.{List, [], ◌∷◌, ◌++◌, append_assoc}
 use native.Mathlib.Omega.{arith}
-use native.Mathlib.Numerals.{add-one}
-use lib.ListN.{length, length-append}
+use lib.ListN.{length}
 use Rattle.text.specs.Split.{past}
-use Rattle.text.specs.Put.{over, wrote, place_after}
-use Rattle.text.proofs.PutLaws.{over_over, length_over, wrote_fits}
 use Rattle.model.specs.Numbers.{refused, shown}
 use Rattle.model.specs.declared.Operation.{Operation}
-use Rattle.model.specs.declared.Registers.{Registers}
-use Rattle.model.specs.step.Machine.{After, stepped}
+use Rattle.model.specs.step.Machine.{After}
 use Rattle.model.specs.reference.Runs.{last, next, checker_run}
 use Rattle.model.specs.Invisible.{checker}
 use Rattle.names.specs.Names.{newline, name}
@@ -19,11 +15,9 @@ use Rattle.listing.specs.declared.Line.{Line}
 use Rattle.listing.specs.declared.Line.TheVariants.{Op, Refused}
 use Rattle.listing.specs.declared.Reason.{Reason}
 use Rattle.listing.specs.Line.{line_of}
-use Rattle.listing.specs.Whole.{list_number, finished, stopped, Reading, stopped_at, nothing_left, read_line, if_empty, read_lines}
-use Rattle.listing.proofs.CanonicalLaws.{line_rest}
-use Rattle.report_line.specs.Text.{no_name, report_line, line_room}
-use Rattle.report_line.proofs.ReportLineLaws.{line_most, refusal_most}
-use Rattle.report.specs.Report.{AnswerLine, answer_lines, answer_text, end_text, Left, replayed, Ran}
+use Rattle.listing.specs.Whole.{list_number, Reading, stopped_at, nothing_left, read_line, read_lines}
+use Rattle.report_line.specs.Text.{no_name, report_line}
+use Rattle.report.specs.Report.{answer_lines, answer_text, end_text, Left, replayed}
 
 -- text in front of a part of the report
 abbrev pub behind : List ℕ → Left → Left

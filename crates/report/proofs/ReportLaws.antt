@@ -33,7 +33,7 @@ use Rattle.listing.specs.Whole.{list_limit, list_number, too_long, has_names, En
 use Rattle.report_line.specs.Text.{header, no_name, start_name, report_line, line_room}
 use Rattle.report.specs.declared.Told.{Told}
 use Rattle.report.specs.declared.Told.TheVariants.{Report, ShortBuffer, WrongTrack, WrongCounts}
-use Rattle.report.specs.Report.{setting, answer_lines, answer_text, Left, replayed, after_start, body_of, headed, report_of, image_limit, memory_length, track_length, passes, looks_at_list, report_limit, Ran, ReportCall, unchanged, reported, called, GivesReport}
+use Rattle.report.specs.Report.{setting, Left, replayed, after_start, body_of, headed, report_of, image_limit, memory_length, track_length, passes, looks_at_list, report_limit, Ran, ReportCall, unchanged, reported, called, GivesReport}
 use Rattle.report.proofs.LinesLaws.{ended, stopped_at_lem}
 
 -- ── The list ──

@@ -1,15 +1,15 @@
 -- What holds at each turn of the loop over the lines of a list: its start, a turn, and its ends. Assumes nothing.
 use Prim.Native.Nat.{ℕ, zero, suc, ◌+◌, ◌*◌, ◌≤◌, ◌<◌}
 use mathlib.Core.Path.{◌≡◌, refl, ap, ap₂, sym, ◌∙◌, subst}
-use mathlib.Core.List.{List, [], ◌∷◌, ◌++◌, append_assoc, append-nil}
+use mathlib.Core.List.{List, [], ◌++◌, append_assoc, append-nil}
 use native.Mathlib.Omega.{arith}
 use native.Mathlib.Numerals.{add-one}
-use lib.ListN.{length, length-append, take, drop}
+use lib.ListN.{length, length-append}
 use Rattle.text.specs.Split.{past}
 use Rattle.text.specs.Put.{over, wrote, place_after}
 use Rattle.text.proofs.PutLaws.{over_over, over_none, length_over, wrote_fits}
 use Rattle.model.specs.Limits.{old_window}
-use Rattle.model.specs.Numbers.{Result, refused, shown}
+use Rattle.model.specs.Numbers.{refused, shown}
 use Rattle.model.specs.declared.Answer.{Answer}
 use Rattle.model.specs.declared.Operation.{Operation}
 use Rattle.model.specs.declared.Registers.{Registers}

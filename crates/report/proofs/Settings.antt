@@ -16,7 +16,7 @@ use Rattle.names.specs.Names.{named_in}
 use Rattle.listing.specs.Line.{spare, zeros, op_of, judged, values_of, field_a, field_b, field_c, fields_of, line_of}
 use Rattle.listing.specs.Whole.{too_long, has_names, read_lines, read_list}
 use Rattle.report_line.specs.Text.{report_line}
-use Rattle.report.specs.Report.{image_limit, track_length, memory_length, answer_lines, answer_text, body_of, report_of}
+use Rattle.report.specs.Report.{track_length, memory_length, answer_lines, answer_text, body_of, report_of}
 
 -- the report of an image file of n bytes with a list, on a track that held anything
 abbrev pub report_text : ℕ → List ℕ → List ℕ → List ℕ

@@ -4,7 +4,7 @@ use mathlib.Core.Path.{◌≡◌, refl, ap, ap₂, sym, ◌∙◌}
 use mathlib.Core.Bool.{Bool, true, false, cond, not, true≢false}
 use mathlib.Core.List.{List, [], ◌∷◌, ◌++◌, map}
 use mathlib.Core.Logic.{◌⊎◌, inl, inr}
-use mathlib.Core.Option.{Option, none, some}
+use mathlib.Core.Option.{Option}
 use native.Mathlib.Omega.{arith}
 use lib.Dec.{ltb, eqb}
 use lib.ListN.{length, length-append, take}
@@ -12,17 +12,17 @@ use lib.Seq.{length-take-le}
 use borrow.Author.Tests.{ltb-false}
 use Rattle.text.specs.Split.{past}
 use Rattle.text.proofs.SplitLaws.{past_length}
-use Rattle.model.specs.Numbers.{Result, refused, refusal_number, shown}
+use Rattle.model.specs.Numbers.{Result, refusal_number, shown}
 use Rattle.model.specs.declared.Answer.{Answer}
 use Rattle.model.specs.declared.Answer.TheVariants.{Done, Faulted, Refused}
 use Rattle.model.specs.declared.Operation.{Operation}
-use Rattle.model.specs.reference.Rules.{State, Move}
-use Rattle.model.specs.reference.Runs.{Checker, next, checker_run, is_refused, seen, Moment, chip_seen}
+use Rattle.model.specs.reference.Rules.{Move}
+use Rattle.model.specs.reference.Runs.{next, checker_run, is_refused, seen, Moment, chip_seen}
 use Rattle.model.specs.declared.Check.{Check}
 use Rattle.model.specs.declared.Check.TheVariants.{Pass, Refuse}
 use Rattle.model.specs.step.Checks.{start_checks, first_failing}
 use Rattle.model.specs.step.Machine.{After, started, started_by}
-use Rattle.model.specs.Invisible.{Session, Accepted, checker, checker_run_of, plain_run_of, chip_run_of}
+use Rattle.model.specs.Invisible.{Accepted, checker, plain_run_of, chip_run_of}
 use Rattle.model.proofs.ThirdDemand.{invisible}
 use Rattle.listing.specs.declared.Line.{Line}
 use Rattle.listing.specs.declared.Line.TheVariants.{Op, Refused as Line-as-Refused}

@@ -1,5 +1,5 @@
 -- The third demand carried to the report, and that a buffer of the named size is long enough for every report.
-use Rattle.std.specs.Prelude.{ℕ, suc, ◌≤◌, ◌≡◌, true, false, cond, not, List, map, ◌++◌, length, take}
+use Rattle.std.specs.Prelude.{ℕ, suc, ◌≤◌, ◌≡◌, true, cond, not, List, map, ◌++◌, length, take}
 use Rattle.std.proofs.Math.Option.{Option, none, some}
 use Rattle.model.specs.Numbers.{Result, shown}
 use Rattle.model.specs.reference.Rules.{State, Move}

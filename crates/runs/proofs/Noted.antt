@@ -6,7 +6,7 @@ use mathlib.Core.List.{List, [], ◌∷◌}
 use lib.ListN.{length}
 use Rattle.model.specs.Limits.{page_size, old_window, row_size}
 use Rattle.model.specs.Numbers.{Result, ok, fault, refused, shown, refusal_number}
-use Rattle.model.specs.reference.Rules.{Translation, found, failed, bits, State, fresh, outcome, carried_out, Scope, scope_of, same_scope, flushes, Kept, empty, one, several, word_of, entry_of, kept, same, add_to, noted, noted_in, word_after, contexts, track_word, has_row}
+use Rattle.model.specs.reference.Rules.{Translation, found, failed, bits, State, fresh, outcome, carried_out, Scope, scope_of, same_scope, flushes, Kept, empty, one, several, word_of, entry_of, kept, same, add_to, noted, noted_in, word_after, contexts, track_word}
 use Rattle.model.specs.reference.Runs.{last, next, checker_run, is_refused}
 use Rattle.model.specs.step.Machine.{After, started}
 use Rattle.model.specs.Demands.{after}

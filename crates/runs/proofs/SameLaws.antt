@@ -1,19 +1,19 @@
 -- On a track that is noted, the step for runs is the full step.
 use Prim.Native.Nat.{ℕ, zero, suc, ◌+◌, ◌*◌, ◌-◌, ◌/◌, ◌%◌, ◌≤◌, ◌<◌}
-use mathlib.Core.Path.{◌≡◌, refl, sym, ap, ap₂, ◌∙◌, subst}
-use mathlib.Core.Bool.{Bool, true, false, cond, ◌&&◌, true≢false}
+use mathlib.Core.Path.{◌≡◌, refl, sym, ap, ◌∙◌, subst}
+use mathlib.Core.Bool.{Bool, true, false, cond, true≢false}
 use mathlib.Core.List.{List}
 use native.Mathlib.Nat.{mul_comm, zero-mul, not-suc-le-zero, zero-lt-suc, mod-lt, div-add-mod, div-lt_iff_lt-mul}
 use native.Mathlib.Omega.{arith}
-use lib.Dec.{eqb, leb, ltb}
+use lib.Dec.{eqb, ltb}
 use lib.ListN.{length, get_or, set, length-set}
 use lib.Seq.{ext_get_or, get_or-set_same, get_or-set_other}
 use borrow.Author.Tests.{eqb-true, eqb-false, ltb-true, ltb-false}
 use Rattle.model.specs.Limits.{page_size, old_window, row_size, address_limit}
-use Rattle.model.specs.reference.Rules.{walk, State, outcome, Scope, own, global, covers, flushes, noted, noted_in, contexts, row_of, has_row, track_word}
+use Rattle.model.specs.reference.Rules.{walk, outcome, Scope, own, global, covers, flushes, noted, noted_in, contexts, row_of, has_row, track_word}
 use Rattle.model.specs.step.Memory.{bytes_of, within, stored_at, written_at}
 use Rattle.model.specs.step.Walk.{walk_page}
-use Rattle.model.specs.step.Track.{add_outcome, note_page, note_track, flush_all, flush_page, flush_context, flush_page_in}
+use Rattle.model.specs.step.Track.{add_outcome, note_page, note_track, flush_context}
 use Rattle.model.specs.step.Checks.{context_fits, first_failing}
 use Rattle.model.specs.step.Machine.{After, tables_of, size_of, access_at, read_from, write_to, read_step, write_step, fetch_step, operate, after_checks, stepped}
 use Rattle.model.specs.Demands.{Call}
@@ -33,7 +33,7 @@ use Rattle.model.proofs.BoolLaws.{either}
 use Rattle.model.proofs.Checks.{row_pages}
 use Rattle.model.proofs.Memory.{stored_same}
 use Rattle.model.proofs.Rows.{Acts}
-use Rattle.model.proofs.Words.{row_kind, noted_elsewhere}
+use Rattle.model.proofs.Words.{noted_elsewhere}
 use Rattle.model.proofs.Track.{page_same, both_own, both_global, both_length, noted_word, noted_length, flush_of, flushed_word, flushed_length}
 use Rattle.model.proofs.Calls.{checks_of, passed_call}
 use Rattle.model.proofs.Kept.{same_has}

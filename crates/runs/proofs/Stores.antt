@@ -7,7 +7,7 @@ use native.Mathlib.Omega.{arith}
 use lib.ListN.{length, get_or, set, length-set}
 use lib.Seq.{get_or-set_other}
 use Rattle.model.specs.Limits.{address_limit, section_size}
-use Rattle.model.specs.reference.Rules.{in_memory, walk, stored}
+use Rattle.model.specs.reference.Rules.{walk, stored}
 use Rattle.model.specs.declared.Tables.{Tables}
 use Rattle.runs.specs.Used.{Among, Serves}
 use Rattle.runs.specs.Quiet.{quiet}

@@ -19,7 +19,7 @@ use Rattle.model.specs.declared.Loaded.TheVariants.{Value, Outside}
 use Rattle.model.specs.declared.FirstLevel.TheVariants.{Failing, Table, Section}
 use Rattle.model.proofs.BoolLaws.{push}
 use Rattle.model.proofs.Memory.{within_same, number_same}
-use Rattle.runs.specs.Used.{window_words, word_size, table_size, first_place, table_base, Among, Serves, first_word, of_table, Used, Untouched}
+use Rattle.runs.specs.Used.{window_words, word_size, table_size, first_place, table_base, Among, Serves, first_word, of_table, Untouched}
 use Rattle.runs.specs.Quiet.{overlap, touches_table, touches_tables, touches, quiet}
 
 -- ── Two ranges of bytes ──

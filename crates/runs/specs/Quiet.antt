@@ -1,5 +1,5 @@
 -- Whether a store is quiet: it touches no byte that a present walk uses. The test goes over the level-one words of the window alone.
-use Rattle.std.specs.Prelude.{ℕ, zero, suc, ◌+◌, ◌*◌, ◌-◌, Bool, true, false, cond, not, List, ltb}
+use Rattle.std.specs.Prelude.{ℕ, zero, suc, ◌*◌, ◌-◌, Bool, true, false, cond, not, List, ltb}
 use Rattle.model.specs.step.Walk.{descriptor_at, first_from}
 use Rattle.model.specs.declared.Tables.{Tables}
 use Rattle.model.specs.declared.FirstLevel.{FirstLevel}

@@ -1,5 +1,5 @@
 -- What is said of the step for runs: from an accepted start it is the full step.
-use Rattle.std.specs.Prelude.{ℕ, ◌+◌, ◌/◌, ◌≤◌, ◌<◌, ◌≡◌, ◌↔◌, true, false, List, length, get_or}
+use Rattle.std.specs.Prelude.{ℕ, ◌+◌, ◌≤◌, ◌<◌, ◌≡◌, ◌↔◌, true, false, List, length, get_or}
 use Rattle.model.specs.Limits.{old_window, address_limit}
 use Rattle.model.specs.reference.Rules.{found, walk, physical, stored, Scope, flushes}
 use Rattle.model.specs.reference.Runs.{Checker, next}

@@ -1,5 +1,5 @@
 -- The step for runs: answer, registers and memory of the full step; of the track it notes only what the operation may have changed.
-use Rattle.std.specs.Prelude.{ℕ, ◌/◌, Bool, cond, List, eqb, length, get_or, set}
+use Rattle.std.specs.Prelude.{ℕ, ◌/◌, cond, List, eqb, length, get_or, set}
 use Rattle.model.specs.Limits.{page_size, old_window, row_size}
 use Rattle.model.specs.step.Memory.{bytes_of}
 use Rattle.model.specs.step.Walk.{walk_page}

@@ -1,18 +1,17 @@
 -- Laws of the spelling of numbers: a turn of the reader, and that spelling and reading undo each other. Assumes nothing.
 use Prim.Native.Nat.{ℕ, zero, suc, ◌+◌, ◌*◌, ◌-◌, ◌/◌, ◌%◌, ◌^◌, ◌≤◌, ◌<◌}
 use mathlib.Core.Path.{◌≡◌, refl, ap, sym, ◌∙◌, subst}
-use mathlib.Core.Bool.{Bool, true, false, cond, not, true≢false}
+use mathlib.Core.Bool.{Bool, true, false, cond, true≢false}
 use mathlib.Core.List.{List, [], ◌∷◌, ◌++◌, append-nil}
-use native.Mathlib.Numerals.{add-one, one-add}
+use native.Mathlib.Numerals.{add-one}
 use native.Mathlib.Omega.{arith}
 use native.Mathlib.Nat.{pow-suc, pow-le-pow_right, zero-add, suc-add, add-suc}
 use native.Mathlib.Decide.{dec_lt}
 use mathlib.Core.Logic.{◌⊎◌, inl, inr, ⊎_elim}
-use lib.ListN.{length, take, drop, get_or, drop_of_length-le}
-use lib.Dec.{eqb, ltb, leb, lit<}
+use lib.ListN.{length, drop, get_or, drop_of_length-le}
+use lib.Dec.{ltb, leb, lit<}
 use lib.Seq.{drop-cons}
-use borrow.Author.Tests.{eq-eqb, ne_eqb, eqb-true, eqb-false, lt-ltb, le-ltb, le-leb, lt-leb, ltb-true, leb-true, not-true}
-use Rattle.text.specs.declared.Value.{Value}
+use borrow.Author.Tests.{eq-eqb, ne_eqb, eqb-false, lt-ltb, le-ltb, le-leb, lt-leb, ltb-true, leb-true, not-true}
 use Rattle.text.specs.declared.Value.TheVariants.{Number, Misspelled}
 use Rattle.text.specs.Split.{has}
 use Rattle.text.specs.Hex.{between, digit, digits, glyph, number, lean, spelled, value_of, spell, hex_of}

@@ -1,14 +1,14 @@
 -- The second half: what the track keeps of a set, some TLB of any size can hold, and it can hold nothing else.
 use Prim.Native.Nat.{ℕ, zero, suc}
-use mathlib.Core.Path.{◌≡◌, refl, sym, ap, ◌∙◌, subst}
-use mathlib.Core.Logic.{◌↔◌, ◌⊎◌, inl, inr, ⊎_elim}
+use mathlib.Core.Path.{◌≡◌, refl, sym, ap, subst}
+use mathlib.Core.Logic.{◌⊎◌, inl, inr, ⊎_elim}
 use mathlib.Core.Bool.{Bool, true, false, true≢false}
-use mathlib.Core.Option.{Option, none, some}
+use mathlib.Core.Option.{some}
 use mathlib.Core.List.{List, [], ◌∷◌}
-use Rattle.tlb.specs.Machine.{Machine, Walk, entry}
-use Rattle.tlb.specs.Chip.{Chip, plain, held_after, moves, held_at_end}
-use Rattle.tlb.specs.Tracker.{Tracker, Reply, done, refused, is_refused, told, end_state, end_track, Agrees, CanDiffer, Exact}
-use Rattle.tlb.specs.Seen.{Seen, nothing, note, spared, Has, From, Stale}
+use Rattle.tlb.specs.Machine.{Machine, entry}
+use Rattle.tlb.specs.Chip.{Chip, held_after, moves, held_at_end}
+use Rattle.tlb.specs.Tracker.{Tracker, Reply, done, refused, is_refused, told, end_state, end_track, CanDiffer, Exact}
+use Rattle.tlb.specs.Seen.{nothing, note, From, Stale}
 use Rattle.tlb.specs.Laws.{Carries, Keeps, Tlb}
 use Rattle.tlb.proofs.Agree.{next, next_fits, moves_fit, held_cons, end_fits, valid_end}
 use Rattle.tlb.proofs.SeenLaws.{from_noted, from_map, from_spared, stale_of, stale_from}

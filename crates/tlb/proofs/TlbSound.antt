@@ -1,13 +1,13 @@
 -- A TLB stays sound: every entry that it holds, and every one that it could load now, is one that the track keeps.
 use Prim.Native.Nat.{ℕ}
-use mathlib.Core.Path.{◌≡◌, refl, sym, ap, ◌∙◌, subst}
-use mathlib.Core.Logic.{◌↔◌, ◌⊎◌, inl, inr}
+use mathlib.Core.Path.{◌≡◌, sym, ◌∙◌, subst}
+use mathlib.Core.Logic.{◌⊎◌, inl, inr}
 use mathlib.Core.Bool.{Bool, true, false, true≢false}
-use mathlib.Core.Option.{Option, none, some}
-use Rattle.tlb.specs.Machine.{Machine, Walk, entry}
+use mathlib.Core.Option.{some}
+use Rattle.tlb.specs.Machine.{Machine, entry}
 use Rattle.tlb.specs.Chip.{Chip}
 use Rattle.tlb.specs.Tracker.{Tracker, Reply, done, refused}
-use Rattle.tlb.specs.Seen.{nothing, note, spared, Has, Stale}
+use Rattle.tlb.specs.Seen.{nothing, spared, Has, Stale}
 use Rattle.tlb.specs.Laws.{Carries, Sound, Keeps, Tlb}
 use Rattle.tlb.proofs.SeenLaws.{has_noted, has_kept, stale_of, is_entry?}
 

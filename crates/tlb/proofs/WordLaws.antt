@@ -4,7 +4,7 @@ use mathlib.Core.Path.{◌≡◌, refl, sym, ap, ◌∙◌}
 use mathlib.Core.Logic.{◌↔◌}
 use mathlib.Core.HLevel.{Discrete}
 use mathlib.Core.Bool.{Bool, true, false, cond, not, true≢false}
-use mathlib.Core.Option.{Option, none, some}
+use mathlib.Core.Option.{some}
 use Rattle.tlb.specs.Machine.{Walk, entry, fault}
 use Rattle.tlb.specs.Seen.{Seen, nothing, one, many, joined, note, Stale}
 use Rattle.tlb.specs.Words.{add_word, differs_from, Coding}

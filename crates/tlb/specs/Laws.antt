@@ -1,10 +1,10 @@
 -- The laws from which the two halves follow. Each speaks of one operation or one move, and none of a list.
 use Rattle.std.specs.Prelude.{ℕ, ◌≡◌, ◌↔◌, ◌⊎◌, true, false}
 use mathlib.Core.HLevel.{Discrete}
-use Rattle.std.proofs.Math.Option.{Option, none, some}
+use Rattle.std.proofs.Math.Option.{Option, some}
 use Rattle.tlb.specs.Machine.{Machine, Walk, entry}
 use Rattle.tlb.specs.Chip.{Chip}
-use Rattle.tlb.specs.Tracker.{Tracker, Reply, done, refused}
+use Rattle.tlb.specs.Tracker.{Tracker, done, refused}
 use Rattle.tlb.specs.Seen.{Seen, nothing, note, spared, Stale}
 
 -- The tracker carries out what the machine does, and a refusal changes nothing.

@@ -1,5 +1,5 @@
 -- The places of a TLB: each may hold one thing. What is held, what may not stand together, and which places are free.
-use Rattle.std.specs.Prelude.{ℕ, zero, suc, ◌≡◌, ◌⊎◌, Bool, false, true, List, [], ◌∷◌}
+use Rattle.std.specs.Prelude.{◌≡◌, ◌⊎◌, Bool, false, List, [], ◌∷◌}
 use Rattle.std.proofs.Math.Option.{Option, none, some}
 
 module _ {H : Type 0} where

@@ -1,7 +1,7 @@
 -- A tracker: a machine with a track, which refuses operations; and the two halves of what is to be proved of it.
-use Rattle.std.specs.Prelude.{ℕ, suc, ◌≡◌, ◌↔◌, Bool, true, false, List, [], ◌∷◌}
+use Rattle.std.specs.Prelude.{ℕ, ◌≡◌, ◌↔◌, Bool, true, false, List, [], ◌∷◌}
 use Rattle.std.proofs.Math.Option.{Option, none, some}
-use Rattle.tlb.specs.Machine.{Machine, Walk, entry}
+use Rattle.tlb.specs.Machine.{Machine, entry}
 use Rattle.tlb.specs.Chip.{Chip, moves, trace, held_at_end}
 
 pub data Reply (R : Type 0) : Type 0 where

@@ -4,15 +4,16 @@
 
 ghost use Rattle.std.specs.Prelude.{◌≡◌, length};
 
-use libc::{STDIN_FILENO, STDOUT_FILENO};
 use line_reader::{Reader, Told};
+use std::io;
+use std::io::Read;
 
 // Where reading stands: there may be more, it is over (the input has ended, or a line was turned back), or a read failed.
 #[derive(Clone, Copy)]
 enum Place {
     More,
     Over,
-    Failed,
+    Failed(io::Error),
 }
 
 #[derive(Clone, Copy)]
@@ -35,23 +36,16 @@ fn line_buffer() -> [u8; 17]
     [0; 17]
 }
 
-// Reads once, and feeds what came to the reader.
-fn read_part(r: Reader, part: &mut [u8], line: &mut [u8], image: &mut [u8]) -> Reading {
-    let got = libc::read(STDIN_FILENO, part);
-    if got < 0 {
-        return Reading {
-            reader: r,
-            place: Place::Failed,
-        };
-    }
-    if got == 0 {
-        return Reading {
-            reader: r,
-            place: Place::Over,
-        };
-    }
-    let n = io::count(got, part);
-    let reader = line_reader::feed(r, &part[..n], line, image);
+// What one read may bring.
+fn part_buffer() -> [u8; 65536]
+    ensures { 65536 ≡ length result }
+{
+    [0; 65536]
+}
+
+// Feeds to the reader what came.
+fn feed_part(r: Reader, part: &[u8], line: &mut [u8], image: &mut [u8]) -> Reading {
+    let reader = line_reader::feed(r, part, line, image);
     if line_reader::is_decided(reader) {
         return Reading {
             reader,
@@ -64,27 +58,39 @@ fn read_part(r: Reader, part: &mut [u8], line: &mut [u8], image: &mut [u8]) -> R
     }
 }
 
-// Reads until it is over or a read fails. A proved loop has to end, and nothing says that an input does: so it counts its turns down, from a
-// number that no run uses up.
-fn read_lines(line: &mut [u8], image: &mut [u8]) -> Reading {
-    let mut space = io::large_buffer();
-    let part: &mut [u8] = &mut space;
+// Reads once, and feeds what came to the reader.
+fn read_part<R: Read>(
+    r: Reader,
+    lines: &mut R,
+    part: &mut [u8],
+    line: &mut [u8],
+    image: &mut [u8],
+) -> Reading {
+    match lines.read(part) {
+        Ok(0) => Reading {
+            reader: r,
+            place: Place::Over,
+        },
+        Ok(n) => feed_part(r, &part[..n], line, image),
+        Err(e) => Reading {
+            reader: r,
+            place: Place::Failed(e),
+        },
+    }
+}
+
+// Reads until it is over or a read fails. A proved loop has to end, and nothing says that an input does: so it counts its turns, to a number that
+// no run uses up.
+fn read_lines<R: Read>(lines: &mut R, line: &mut [u8], image: &mut [u8]) -> Reading {
+    let mut part = part_buffer();
     let mut reader = line_reader::begin(image);
-    let mut turns = u64::MAX;
-    while turns > 0 {
-        let next = read_part(reader, part, line, image);
+    for _ in 0..u64::MAX {
+        let next = read_part(reader, lines, &mut part, line, image);
         reader = next.reader;
-        let place = next.place;
-        match place {
-            Place::More => {
-                turns -= 1;
-            }
-            Place::Over => {
-                return next;
-            }
-            Place::Failed => {
-                return next;
-            }
+        match next.place {
+            Place::More => {}
+            Place::Over => return next,
+            Place::Failed(_) => return next,
         }
     }
     Reading {
@@ -94,27 +100,23 @@ fn read_lines(line: &mut [u8], image: &mut [u8]) -> Reading {
 }
 
 // Writes the image, or the refusal.
-fn print_image(reader: Reader, image: &mut [u8]) {
+fn print_image(rt: &(impl Print + Eprint + AllocGlobal), reader: Reader, image: &mut [u8]) {
     if let Told::Output(size) = line_reader::finish_file(reader, image) {
-        if !io::write_all(STDOUT_FILENO, &image[..size]) {
-            os::fail(b"to_image: the output cannot be written");
-        }
+        output::write_or_fail(rt, &image[..size], "to_image: the output cannot be written");
     }
 }
 
-fn fail_to_read() {
-    os::fail(b"to_image: the lines were not read to their end");
+fn fail_to_read(rt: &(impl Eprint + AllocGlobal), error: Option<io::Error>) {
+    output::fail(rt, "to_image: the lines were not read to their end", error);
 }
 
-fn main() {
+fn main(rt: HostRuntime) {
     let mut line = line_buffer();
     let mut image = image_buffer();
-    let read = read_lines(&mut line, &mut image);
-    let place = read.place;
-    let reader = read.reader;
-    match place {
-        Place::Over => print_image(reader, &mut image),
-        Place::More => fail_to_read(),
-        Place::Failed => fail_to_read(),
+    let read = read_lines(&mut rt.stdin(), &mut line, &mut image);
+    match read.place {
+        Place::Over => print_image(&rt, read.reader, &mut image),
+        Place::More => fail_to_read(&rt, None),
+        Place::Failed(e) => fail_to_read(&rt, Some(e)),
     }
 }

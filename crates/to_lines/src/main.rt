@@ -4,7 +4,6 @@
 
 ghost use Rattle.std.specs.Prelude.{◌≡◌, length};
 
-use libc::STDOUT_FILENO;
 use line_writer::Told;
 
 // The buffers come from functions that ensure their lengths: a proof never computes with their elements. The image's is one byte longer than the
@@ -22,21 +21,23 @@ fn text_buffer() -> [u8; 147474]
 }
 
 // Writes the lines of an image buffer of which n bytes were read.
-fn print_lines(image: &[u8], n: usize) {
+fn print_lines(rt: &(impl Print + Eprint + AllocGlobal), image: &[u8], n: usize) {
     let mut out = text_buffer();
     if let Told::Text(size) = line_writer::write_file_lines(image, n, &mut out) {
-        if !io::write_all(STDOUT_FILENO, &out[..size]) {
-            os::fail(b"to_lines: the lines cannot be written");
-        }
+        output::write_or_fail(rt, &out[..size], "to_lines: the lines cannot be written");
     }
 }
 
-fn main() {
+fn main(rt: HostRuntime) {
     let mut image = image_buffer();
-    let got = input::read_image(&mut image);
+    let got = input::read_image(&rt, &mut image);
     if !got.whole {
-        os::fail(b"to_lines: image.bin was not read to its end");
+        output::fail(
+            &rt,
+            "to_lines: image.bin was not read to its end",
+            got.error,
+        );
         return;
     }
-    print_lines(&image, got.count);
+    print_lines(&rt, &image, got.count);
 }

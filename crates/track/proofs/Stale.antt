@@ -1,11 +1,8 @@
 -- Laws of stale pages.
 use Prim.Native.Nat.{ℕ}
-use mathlib.Core.Path.{◌≡◌, refl, sym, ap, ◌∙◌}
-use mathlib.Core.Bool.{Bool, true, false}
-use lib.Dec.{eqb}
+use mathlib.Core.Path.{◌≡◌}
+use mathlib.Core.Bool.{false}
 use borrow.Author.Tests.{eq-eqb}
-use mathlib.Core.Bool.{cond}
-use Rattle.model.specs.step.Track.{entry_word}
 use Rattle.model.specs.declared.Outcome.{Outcome}
 use Rattle.model.specs.declared.Outcome.TheVariants.{Mapped, Failed}
 use Rattle.model.specs.step.Track.{stale_word}

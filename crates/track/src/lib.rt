@@ -131,6 +131,7 @@ pub fn word_at(window: u32, track: &[u32], row: usize, page: usize) -> u32
 }
 
 // Whether a word of a row of this kind makes its page stale.
+#[tactic(auto, unfolding(model::specs::step::Track::stale_word))]
 pub fn is_stale(global: u32, w: u32, o: Outcome) -> bool
     ensures { result ≡ stale_word global w o }
 {

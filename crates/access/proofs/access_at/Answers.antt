@@ -1,4 +1,4 @@
-use mathlib.Core.Path.{sym, ◌∙◌}
+use mathlib.Core.Path.{◌∙◌}
 use Rattle.model.specs.step.Machine.{access_at}
 use Rattle.model.proofs.Tellings.{tells}
 use Rattle.model.specs.Numbers.{access_result}

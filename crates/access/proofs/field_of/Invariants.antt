@@ -1,8 +1,6 @@
-use Prim.Native.Nat.{ℕ, ◌-◌, ◌≤◌, zero-le}
-use native.Mathlib.Omega.{arith}
-use mathlib.Core.Path.{◌≡◌, sym, ap, ◌∙◌}
+use Prim.Native.Nat.{◌-◌, ◌≤◌}
+use mathlib.Core.Path.{◌≡◌}
 use Rattle.model.specs.step.Rights.{field_at}
-use Rattle.access.proofs.Laws.{zero_field, next_field, last_field}
 use Rattle.access.proofs.field_of.Given as goal
 
 abbrev pub invariant-loop-i : goal.invariant-loop-i

@@ -1,4 +1,3 @@
-use mathlib.Core.Path.{sym}
 use borrow.Author.Tests.{eq-eqb, ne_eqb}
 use Rattle.model.proofs.Tellings.{tells}
 use Rattle.model.specs.step.Memory.{bytes_of}

@@ -1,5 +1,4 @@
 use mathlib.Core.Path.{◌≡◌, refl, ap, sym}
-use mathlib.Core.List.{[], ◌∷◌}
 use lib.Dec.{eqb}
 use Rattle.model.specs.declared.Kind.{Kind}
 use Rattle.model.specs.step.Checks.{may_ask}

@@ -1,6 +1,6 @@
-use borrow.Author.Tests.{eq-eqb, ne_eqb, lt-ltb, le-ltb, le-leb, lt-leb}
+use borrow.Author.Tests.{eq-eqb, ne_eqb}
 use Prim.Native.Nat.{ℕ}
-use mathlib.Core.Path.{ap, sym, ◌∙◌}
+use mathlib.Core.Path.{ap}
 use Rattle.model.specs.step.Walk.{pointer_of, first_of}
 use Rattle.model.specs.declared.FirstLevel.TheVariants.{Table, Section}
 use Rattle.model.proofs.Tellings.{tells}

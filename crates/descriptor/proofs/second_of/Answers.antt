@@ -1,5 +1,5 @@
-use borrow.Author.Tests.{eq-eqb, ne_eqb, lt-ltb, le-ltb, le-leb, lt-leb}
-use mathlib.Core.Path.{ap, sym, ◌∙◌}
+use borrow.Author.Tests.{eq-eqb, ne_eqb}
+use mathlib.Core.Path.{ap}
 use Rattle.model.specs.step.Walk.{second_of}
 use Rattle.model.specs.declared.Outcome.TheVariants.{Mapped}
 use Rattle.model.proofs.Tellings.{tells}

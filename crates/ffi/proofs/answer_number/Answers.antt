@@ -1,6 +1,6 @@
 use mathlib.Core.Path.{sym, ap, ◌∙◌}
 use Prim.Native.Nat.{ℕ, ◌+◌}
-use Rattle.ffi.specs.Words.{kind_from, operation_from, registers_from, registers_into, answer_number, are_words}
+use Rattle.ffi.specs.Words.{answer_number}
 use Rattle.ffi.proofs.answer_number.Goals as goal
 
 pub returns-in-Faulted : goal.returns-in-Faulted

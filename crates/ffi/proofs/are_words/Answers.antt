@@ -1,8 +1,8 @@
-use mathlib.Core.Path.{sym, ap, ◌∙◌}
+use mathlib.Core.Path.{ap}
 use lib.Dec.{ltb}
 use Prim.Native.Nat.{ℕ}
 use borrow.Author.Tests.{eq-eqb, ne_eqb}
-use Rattle.ffi.specs.Words.{kind_from, operation_from, registers_from, registers_into, answer_number, are_words}
+use Rattle.ffi.specs.Words.{are_words}
 use Rattle.ffi.proofs.are_words.Goals as goal
 
 pub returns-then-r-eq4 : goal.returns-then-r-eq4

@@ -1,5 +1,5 @@
 use borrow.Author.Tests.{eq-eqb, ne_eqb}
-use Rattle.ffi.specs.Words.{kind_from, operation_from, registers_from, registers_into, answer_number, are_words}
+use Rattle.ffi.specs.Words.{kind_from}
 use Rattle.ffi.proofs.kind_from.Goals as goal
 
 pub returns-then-k-eq0 : goal.returns-then-k-eq0

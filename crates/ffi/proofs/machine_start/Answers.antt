@@ -1,6 +1,5 @@
-use mathlib.Core.Path.{sym, ◌∙◌}
 use Rattle.model.specs.reference.Rules.{rooted}
-use Rattle.ffi.proofs.Laws.{step_left, step_not, four, start_left, start_not}
+use Rattle.ffi.proofs.Laws.{start_left, start_not}
 use Rattle.ffi.proofs.machine_start.Goals as goal
 
 pub returns-then-r-eq4 : goal.returns-then-r-eq4

@@ -1,5 +1,5 @@
 use mathlib.Core.Path.{sym, ◌∙◌}
-use Rattle.ffi.proofs.Laws.{step_left, step_not, four, start_left, start_not}
+use Rattle.ffi.proofs.Laws.{step_left, step_not, four}
 use Rattle.ffi.proofs.machine_step.Goals as goal
 
 pub registers_into-requires : goal.registers_into-requires

@@ -1,5 +1,5 @@
-use mathlib.Core.Path.{sym, ap, ◌∙◌}
-use Rattle.ffi.specs.Words.{kind_from, operation_from, registers_from, registers_into, answer_number, are_words}
+use mathlib.Core.Path.{ap, ◌∙◌}
+use Rattle.ffi.specs.Words.{kind_from, operation_from}
 use Rattle.ffi.proofs.operation_from.Goals as goal
 
 pub returns : goal.returns

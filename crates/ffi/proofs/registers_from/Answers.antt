@@ -1,4 +1,4 @@
-use Rattle.ffi.specs.Words.{kind_from, operation_from, registers_from, registers_into, answer_number, are_words}
+use Rattle.ffi.specs.Words.{registers_from}
 use Rattle.ffi.proofs.registers_from.Goals as goal
 
 pub returns : goal.returns

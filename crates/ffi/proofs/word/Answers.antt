@@ -1,6 +1,5 @@
 use mathlib.Core.Path.{sym}
 use lib.ListN.{get_or-eq_default}
-use native.Mathlib.Omega.{arith}
 use Rattle.ffi.proofs.word.Goals as goal
 
 pub returns : goal.returns

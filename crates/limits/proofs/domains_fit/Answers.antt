@@ -1,8 +1,8 @@
-use Prim.Native.Nat.{◌-◌, ◌≤◌, zero-le}
+use Prim.Native.Nat.{zero-le}
 use native.Mathlib.Omega.{arith}
-use mathlib.Core.Path.{◌≡◌, refl, sym, ap, ◌∙◌}
+use mathlib.Core.Path.{refl, sym, ap, ◌∙◌}
 use borrow.Author.Tests.{eq-eqb, ne_eqb}
-use Rattle.model.specs.step.Checks.{fields_fit, domains_fit}
+use Rattle.model.specs.step.Checks.{domains_fit}
 use Rattle.limits.proofs.Laws.{one_field, no_field, all_1}
 use Rattle.limits.proofs.domains_fit.Goals as goal
 

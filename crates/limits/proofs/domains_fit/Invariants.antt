@@ -1,9 +1,6 @@
-use Prim.Native.Nat.{◌-◌, ◌≤◌, zero-le}
-use native.Mathlib.Omega.{arith}
-use mathlib.Core.Path.{◌≡◌, refl, sym, ap, ◌∙◌}
-use borrow.Author.Tests.{eq-eqb, ne_eqb}
+use Prim.Native.Nat.{◌-◌, ◌≤◌}
+use mathlib.Core.Path.{◌≡◌}
 use Rattle.model.specs.step.Checks.{fields_fit, domains_fit}
-use Rattle.limits.proofs.Laws.{one_field, no_field, all_1}
 use Rattle.limits.proofs.domains_fit.Given as goal
 
 abbrev pub invariant-loop-i : goal.invariant-loop-i

@@ -1,5 +1,5 @@
 use Rattle.model.specs.step.Checks.{memory_fits}
-use borrow.Author.Tests.{eq-eqb, ne_eqb, lt-ltb, le-ltb, le-leb, lt-leb}
+use borrow.Author.Tests.{eq-eqb, ne_eqb, le-leb, lt-leb}
 use Rattle.limits.proofs.memory_fits.Goals as goal
 
 pub returns-then-n-ge4096 : goal.returns-then-n-ge4096

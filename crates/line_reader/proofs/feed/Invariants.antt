@@ -1,9 +1,7 @@
-use Prim.Native.Nat.{◌+◌, ◌-◌}
-use mathlib.Core.Path.{◌≡◌, refl, ap, sym, ◌∙◌}
-use native.Mathlib.Omega.{arith}
+use Prim.Native.Nat.{◌-◌}
+use mathlib.Core.Path.{◌≡◌}
 use lib.ListN.{length, drop}
 use Rattle.line_reader.specs.Reading.{feed}
-use Rattle.line_reader.proofs.Laws.{feed_turn, feed_end}
 use Rattle.line_reader.proofs.feed.Given as goal
 
 abbrev pub invariant-loop-i : goal.invariant-loop-i

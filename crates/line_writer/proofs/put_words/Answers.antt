@@ -1,8 +1,7 @@
-use Prim.Native.Nat.{◌+◌, ◌-◌, ◌≤◌}
+use Prim.Native.Nat.{◌+◌}
 use mathlib.Core.Path.{ap₂, ◌∙◌}
 use native.Mathlib.Omega.{arith}
-use lib.ListN.{length}
-use Rattle.line_writer.proofs.Laws.{Going, going_start, going_word, going_end, rest_part}
+use Rattle.line_writer.proofs.Laws.{going_start, going_word, going_end, rest_part}
 use Rattle.line_writer.specs.Call.{place_after_word, wrote_word}
 use Rattle.line_writer.proofs.put_words.Goals as goal
 

@@ -1,9 +1,6 @@
-use Prim.Native.Nat.{◌+◌, ◌-◌, ◌≤◌}
-use mathlib.Core.Path.{ap₂, ◌∙◌}
-use native.Mathlib.Omega.{arith}
+use Prim.Native.Nat.{◌-◌, ◌≤◌}
 use lib.ListN.{length}
-use Rattle.line_writer.proofs.Laws.{Going, going_start, going_word, going_end, rest_part}
-use Rattle.line_writer.specs.Call.{place_after_word, wrote_word}
+use Rattle.line_writer.proofs.Laws.{Going}
 use Rattle.line_writer.proofs.put_words.Given as goal
 
 abbrev pub invariant-loop-at : goal.invariant-loop-at

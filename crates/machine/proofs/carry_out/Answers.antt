@@ -1,6 +1,6 @@
 use mathlib.Core.Path.{sym, ap, ◌∙◌}
 use Rattle.transfer.proofs.Laws.{regive}
-use Rattle.model.specs.step.Machine.{carried, read_step, write_step, fetch_step, operate}
+use Rattle.model.specs.step.Machine.{carried, read_step, write_step, operate}
 use Rattle.model.specs.declared.Size.{Size}
 use Rattle.model.specs.declared.Kind.{Kind}
 use Rattle.model.specs.declared.Registers.{Registers}

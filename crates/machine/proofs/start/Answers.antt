@@ -1,9 +1,6 @@
-use mathlib.Core.Path.{sym, ap, ap₂, ◌∙◌, refl}
+use mathlib.Core.Path.{sym, ap, ◌∙◌}
 use Rattle.transfer.proofs.Laws.{regive, turned}
-use Rattle.model.specs.step.Machine.{After, carried, read_from, write_to, read_step, write_step, operate, after_checks, stepped, started, started_by}
-use Rattle.model.specs.declared.Access.{Access}
-use Rattle.model.specs.declared.Size.{Size}
-use Rattle.model.specs.declared.Kind.{Kind}
+use Rattle.model.specs.step.Machine.{carried, started, started_by}
 use Rattle.model.specs.declared.Check.{Check}
 use Rattle.model.specs.declared.Answer.TheVariants.{Done}
 use Prim.Native.Nat.{ℕ}

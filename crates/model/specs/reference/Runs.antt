@@ -2,7 +2,7 @@
 use Rattle.std.specs.Prelude.{ℕ, suc, ◌≡◌, ◌⊎◌, Bool, true, false, cond, List, [], ◌∷◌, replicate}
 use Rattle.std.proofs.Math.Option.{Option, none, some}
 use Rattle.model.specs.Numbers.{Result, ok, fault, refused, shown}
-use Rattle.model.specs.reference.Rules.{State, fresh, plain_step, Held, Places, Move, moves, chip_step}
+use Rattle.model.specs.reference.Rules.{State, plain_step, Held, Places, Move, moves, chip_step}
 use Rattle.model.specs.step.Machine.{After}
 use Rattle.model.specs.Types.{Registers, Setting, Operation}
 

@@ -1,5 +1,5 @@
 -- Each operation, start, and one step: answer, registers, memory and track.
-use Rattle.std.specs.Prelude.{ℕ, ◌+◌, ◌*◌, ◌/◌, ◌%◌, ◌≡◌, Bool, true, false, cond, List, eqb, length}
+use Rattle.std.specs.Prelude.{ℕ, ◌+◌, ◌*◌, ◌/◌, ◌%◌, ◌≡◌, Bool, cond, List, eqb, length}
 use Rattle.model.specs.Limits.{page_size, old_window}
 use Rattle.model.specs.Numbers.{shown}
 use Rattle.model.specs.step.Memory.{bytes_of, within, load_at, written_at}

@@ -1,5 +1,5 @@
 -- What an entry's access permissions allow, 0 nothing, 1 reading, 2 reading and writing, and what the field of its domain makes of it.
-use Rattle.std.specs.Prelude.{ℕ, zero, suc, ◌/◌, ◌%◌, Bool, true, false, cond, eqb, leb}
+use Rattle.std.specs.Prelude.{ℕ, zero, suc, ◌/◌, ◌%◌, Bool, false, cond, eqb, leb}
 use Rattle.model.specs.Types.{Purpose, ToRead, ToWrite, ToFetch, Ruling, Allowed, PermissionDenied, DomainDenied}
 
 -- whether x is one of low to high

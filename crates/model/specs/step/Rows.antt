@@ -1,5 +1,5 @@
 -- Lists of words in rows of one size: a change of each word by its index, of one row, and of each row.
-use Rattle.std.specs.Prelude.{ℕ, zero, suc, ◌+◌, ◌*◌, Bool, cond, List, [], ◌∷◌, ◌++◌, leb, length, take, drop}
+use Rattle.std.specs.Prelude.{ℕ, zero, suc, ◌+◌, ◌*◌, cond, List, [], ◌∷◌, ◌++◌, leb, length, take, drop}
 
 -- the first n words changed by f, which is told each word's index; the list starts at index i
 abbrev pub map_first : (ℕ → ℕ → ℕ) → ℕ → ℕ → List ℕ → List ℕ

@@ -1,5 +1,5 @@
 -- The walk of two-level tables, by page number.
-use Rattle.std.specs.Prelude.{ℕ, ◌+◌, ◌*◌, ◌-◌, ◌/◌, ◌%◌, Bool, true, false, cond, List, eqb}
+use Rattle.std.specs.Prelude.{ℕ, ◌+◌, ◌*◌, ◌-◌, ◌/◌, ◌%◌, cond, List, eqb}
 use Rattle.model.specs.step.Memory.{load_at}
 use Rattle.model.specs.Types.{Entry, FirstUnmapped, SecondUnmapped, FirstOutside, SecondOutside, Four, Loaded, Value, Outside, Pointer, FirstLevel, Failing, Table, Section, Tables, Outcome, Mapped, Failed}
 

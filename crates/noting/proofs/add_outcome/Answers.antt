@@ -1,4 +1,4 @@
-use mathlib.Core.Path.{◌≡◌, ap, sym, ◌∙◌}
+use mathlib.Core.Path.{ap, sym, ◌∙◌}
 use borrow.Author.Tests.{eq-eqb, ne_eqb}
 use Rattle.model.specs.step.Track.{add_entry, add_outcome}
 use Rattle.noting.proofs.add_outcome.Goals as goal

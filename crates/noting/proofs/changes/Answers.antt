@@ -1,6 +1,5 @@
 use Prim.Native.Nat.{zero-le}
-use mathlib.Core.Path.{◌≡◌, refl, sym, ap, ◌∙◌, subst}
-use native.Mathlib.Omega.{arith}
+use mathlib.Core.Path.{refl, sym, ap, ◌∙◌, subst}
 use Rattle.model.specs.declared.Outcome.{Outcome}
 use Rattle.model.specs.step.Track.{add_entry}
 use Rattle.noting.specs.Mib.{Stays}

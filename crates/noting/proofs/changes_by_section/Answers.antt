@@ -1,4 +1,4 @@
-use Prim.Native.Nat.{ℕ, ◌+◌, ◌≤◌, ◌<◌, ◌-◌, zero-le}
+use Prim.Native.Nat.{ℕ, zero-le}
 use lib.ListN.{length, get_or}
 use native.Mathlib.Nat.{le_antisymm}
 use native.Mathlib.Omega.{arith}
@@ -7,7 +7,7 @@ use Rattle.model.specs.declared.Entry.{Entry}
 use Rattle.model.specs.declared.Outcome.TheVariants.{Mapped}
 use Rattle.model.specs.step.Walk.{section_entry}
 use Rattle.noting.specs.Mib.{note_section, Stays}
-use Rattle.noting.proofs.Settled.{Through, through_none, through_turn, through_all}
+use Rattle.noting.proofs.Settled.{through_none, through_turn, through_all}
 use Rattle.noting.proofs.changes_by_section.Goals as goal
 
 pub loop-i-init : goal.loop-i-init

@@ -1,12 +1,8 @@
-use Prim.Native.Nat.{ℕ, ◌+◌, ◌*◌, ◌≤◌, ◌<◌, ◌-◌, zero-le}
-use lib.ListN.{length, get_or}
-use native.Mathlib.Omega.{arith}
-use mathlib.Core.Path.{◌≡◌, refl, sym, ◌∙◌, subst}
-use Rattle.model.specs.declared.Outcome.{Outcome}
-use Rattle.model.specs.step.Walk.{second_at}
-use Rattle.noting.specs.Mib.{note_table, Stays}
-use Rattle.noting.proofs.Mib.{table_word, by_table}
-use Rattle.noting.proofs.Settled.{Through, through_none, through_turn}
+use Prim.Native.Nat.{◌+◌, ◌*◌, ◌≤◌, ◌<◌, ◌-◌}
+use lib.ListN.{length}
+use mathlib.Core.Path.{◌≡◌}
+use Rattle.noting.specs.Mib.{note_table}
+use Rattle.noting.proofs.Settled.{Through}
 use Rattle.noting.proofs.changes_by_table.Given as goal
 
 abbrev pub invariant-loop-i : goal.invariant-loop-i

@@ -1,4 +1,4 @@
-use mathlib.Core.Path.{◌≡◌, sym, ◌∙◌}
+use mathlib.Core.Path.{sym, ◌∙◌}
 use Rattle.noting.proofs.Mib.{by_first, by_none, no_change}
 use Rattle.noting.proofs.changes_of_mib.Goals as goal
 

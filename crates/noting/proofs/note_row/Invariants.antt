@@ -1,12 +1,9 @@
-use Prim.Native.Nat.{ℕ, ◌+◌, ◌*◌, ◌/◌, ◌≤◌, ◌<◌, ◌%◌, ◌-◌, zero-le}
-use lib.ListN.{length, take, drop}
-use native.Mathlib.Omega.{arith}
-use mathlib.Core.Path.{◌≡◌, refl, ap, sym, ◌∙◌}
+use Prim.Native.Nat.{◌≤◌, ◌<◌, ◌%◌, ◌-◌}
+use lib.ListN.{length}
+use mathlib.Core.Path.{◌≡◌}
 use Rattle.model.specs.step.Rows.{map_first}
 use Rattle.model.specs.step.Track.{note_page}
 use Rattle.noting.specs.Mib.{mib_pages}
-use Rattle.track.proofs.Rows.{part_turn, all_turns}
-use Rattle.noting.proofs.Mib.{by_mib}
 use Rattle.noting.proofs.note_row.Given as goal
 
 abbrev pub invariant-loop-page : goal.invariant-loop-page

@@ -1,10 +1,9 @@
-use Prim.Native.Nat.{ℕ, ◌+◌, ◌*◌, ◌≤◌, ◌<◌, ◌-◌, zero-le}
-use lib.ListN.{length, length-set, get_or}
+use Prim.Native.Nat.{zero-le}
+use lib.ListN.{length-set, get_or}
 use native.Mathlib.Omega.{arith}
-use mathlib.Core.Path.{◌≡◌, refl, ap, ◌∙◌}
+use mathlib.Core.Path.{refl, ap, ◌∙◌}
 use Rattle.model.specs.declared.Entry.{Entry}
 use Rattle.model.specs.declared.Outcome.TheVariants.{Mapped}
-use Rattle.model.specs.step.Rows.{map_first}
 use Rattle.model.specs.step.Track.{add_outcome}
 use Rattle.noting.specs.Mib.{note_section}
 use Rattle.track.proofs.Rows.{turn, all_turns}

@@ -1,8 +1,7 @@
-use Prim.Native.Nat.{ℕ, ◌+◌, ◌*◌, ◌≤◌, ◌<◌, ◌-◌, zero-le}
+use Prim.Native.Nat.{◌+◌, ◌*◌, ◌≤◌, zero-le}
 use lib.ListN.{length, length-set, get_or}
 use native.Mathlib.Omega.{arith}
-use mathlib.Core.Path.{◌≡◌, refl, ap, ◌∙◌}
-use Rattle.model.specs.step.Rows.{map_first}
+use mathlib.Core.Path.{refl, ap, ◌∙◌}
 use Rattle.model.specs.step.Track.{add_outcome}
 use Rattle.noting.specs.Mib.{note_table}
 use Rattle.track.proofs.Rows.{turn}

@@ -1,12 +1,8 @@
-use Prim.Native.Nat.{ℕ, ◌+◌, ◌*◌, ◌≤◌, ◌<◌, ◌-◌, zero-le}
-use lib.ListN.{length, length-set, get_or}
-use native.Mathlib.Omega.{arith}
-use mathlib.Core.Path.{◌≡◌, refl, ap, ◌∙◌}
+use Prim.Native.Nat.{◌+◌, ◌*◌, ◌≤◌, ◌<◌, ◌-◌}
+use lib.ListN.{length}
+use mathlib.Core.Path.{◌≡◌}
 use Rattle.model.specs.step.Rows.{map_first}
-use Rattle.model.specs.step.Track.{add_outcome}
 use Rattle.noting.specs.Mib.{note_table}
-use Rattle.track.proofs.Rows.{turn}
-use Rattle.noting.proofs.Mib.{table_word, by_table}
 use Rattle.noting.proofs.note_table.Given as goal
 
 abbrev pub invariant-loop-i : goal.invariant-loop-i

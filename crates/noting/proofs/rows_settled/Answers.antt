@@ -1,5 +1,5 @@
-use Prim.Native.Nat.{ℕ, ◌+◌, ◌*◌, ◌/◌, ◌≤◌, ◌<◌, ◌%◌, ◌-◌, zero-le}
-use lib.ListN.{length, take, drop}
+use Prim.Native.Nat.{ℕ, ◌+◌, ◌%◌, ◌-◌, zero-le}
+use lib.ListN.{length, drop}
 use native.Mathlib.Nat.{le_antisymm}
 use native.Mathlib.Omega.{arith}
 use mathlib.Core.Path.{◌≡◌, refl, ap, sym, ◌∙◌}
@@ -9,7 +9,7 @@ use Rattle.model.specs.step.Track.{note_page}
 use Rattle.noting.specs.Mib.{mib_pages}
 use Rattle.track.proofs.Rows.{still_part}
 use Rattle.noting.proofs.Mib.{by_mib}
-use Rattle.noting.proofs.Settled.{Through, through_none, through_all}
+use Rattle.noting.proofs.Settled.{through_none, through_all}
 use Rattle.noting.proofs.rows_settled.Goals as goal
 
 pub loop-page-init : goal.loop-page-init

@@ -1,9 +1,5 @@
-use Prim.Native.Nat.{◌*◌, ◌-◌, ◌≤◌}
-use mathlib.Core.Path.{◌≡◌, refl, ◌∙◌}
+use mathlib.Core.Path.{refl, ◌∙◌}
 use native.Mathlib.Omega.{arith}
-use lib.ListN.{length}
-use lib.Seq.{paste}
-use Rattle.permissions.specs.Sheet.{sheet}
 use Rattle.permissions.proofs.Places.{answer_at_small}
 use Rattle.permissions.proofs.Text.{next_line, all_lines}
 use borrow.Author.Rules.{rules}

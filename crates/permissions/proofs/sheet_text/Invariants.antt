@@ -1,11 +1,8 @@
 use Prim.Native.Nat.{◌*◌, ◌-◌, ◌≤◌}
-use mathlib.Core.Path.{◌≡◌, refl, ◌∙◌}
-use native.Mathlib.Omega.{arith}
+use mathlib.Core.Path.{◌≡◌}
 use lib.ListN.{length}
 use lib.Seq.{paste}
 use Rattle.permissions.specs.Sheet.{sheet}
-use Rattle.permissions.proofs.Places.{answer_at_small}
-use Rattle.permissions.proofs.Text.{next_line, all_lines}
 use Rattle.permissions.proofs.sheet_text.Given as goal
 
 abbrev pub invariant-loop-i : goal.invariant-loop-i

@@ -1,7 +1,5 @@
-use Prim.Native.Nat.{◌≤◌}
-use mathlib.Core.Path.{◌≡◌, refl, sym, ◌∙◌}
+use mathlib.Core.Path.{refl, sym, ◌∙◌}
 use native.Mathlib.Omega.{arith}
-use Rattle.runs.specs.Quiet.{touches_tables}
 use Rattle.quiet.proofs.Laws.{one_mib, met, none_left, apart}
 use Rattle.quiet.proofs.touches_tables.Goals as goal
 

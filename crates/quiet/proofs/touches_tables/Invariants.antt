@@ -1,8 +1,6 @@
 use Prim.Native.Nat.{◌≤◌}
-use mathlib.Core.Path.{◌≡◌, refl, sym, ◌∙◌}
-use native.Mathlib.Omega.{arith}
+use mathlib.Core.Path.{◌≡◌}
 use Rattle.runs.specs.Quiet.{touches_tables}
-use Rattle.quiet.proofs.Laws.{one_mib, met, none_left, apart}
 use Rattle.quiet.proofs.touches_tables.Given as goal
 
 abbrev pub invariant-loop-i : goal.invariant-loop-i

@@ -2,7 +2,6 @@ use mathlib.Core.Path.{refl, sym}
 use Rattle.model.specs.reference.Rules.{right_of, may_read, may_write, permits, ruling}
 use Rattle.permissions.specs.Places.{by_rules, agree}
 use Rattle.permissions.proofs.Places.{past_answers}
-use borrow.Author.Rules.{rules}
 use Rattle.rulings.proofs.answer_at.Goals as goal
 
 -- the test over the whole table is computed here: all 384 places agree with the rules

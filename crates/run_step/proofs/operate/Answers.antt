@@ -1,11 +1,11 @@
 use Prim.Native.Nat.{ℕ}
-use mathlib.Core.Path.{◌≡◌, refl, sym, ap, ap₂, ◌∙◌}
+use mathlib.Core.Path.{sym, ap, ◌∙◌}
 use mathlib.Core.List.{List}
 use Rattle.model.specs.Limits.{old_window}
 use Rattle.model.specs.declared.Access.{Access}
 use Rattle.model.specs.declared.Answer.TheVariants.{Done}
 use Rattle.model.specs.declared.Kind.{Kind}
-use Rattle.model.specs.declared.Purpose.TheVariants.{ToRead, ToWrite, ToFetch}
+use Rattle.model.specs.declared.Purpose.TheVariants.{ToRead, ToWrite}
 use Rattle.model.specs.declared.Registers.{Registers}
 use Rattle.model.specs.declared.Size.{Size}
 use Rattle.model.specs.declared.Size.TheVariants.{Four}

@@ -1,5 +1,5 @@
 use Prim.Native.Nat.{ℕ}
-use mathlib.Core.Path.{◌≡◌, refl, sym, ap, ap₂, ◌∙◌}
+use mathlib.Core.Path.{sym, ap, ◌∙◌}
 use Rattle.model.specs.Limits.{old_window}
 use Rattle.model.specs.declared.Access.{Access}
 use Rattle.model.specs.declared.Answer.TheVariants.{Done}

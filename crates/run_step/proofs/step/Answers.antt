@@ -1,4 +1,4 @@
-use mathlib.Core.Path.{◌≡◌, refl, sym, ap, ap₂, ◌∙◌}
+use mathlib.Core.Path.{sym, ap, ◌∙◌}
 use Rattle.model.specs.declared.Check.{Check}
 use Rattle.transfer.proofs.Laws.{regive, turned}
 use Rattle.runs.specs.Step.{run_after_checks, run_stepped}

@@ -1,4 +1,4 @@
-use mathlib.Core.Path.{◌≡◌, refl, sym, ap, ap₂, ◌∙◌}
+use mathlib.Core.Path.{sym, ap}
 use Rattle.model.specs.Limits.{old_window}
 use Rattle.model.specs.declared.Access.{Access}
 use Rattle.model.specs.step.Machine.{tables_of, write_to}

@@ -1,10 +1,10 @@
-use lib.ListN.{length, length-set, drop, take, set}
+use lib.ListN.{length, length-set, set}
 use Rattle.text.proofs.HexPut.{spelled_part}
 use Rattle.text.proofs.HexLaws.{hex_length}
-use Prim.Native.Nat.{ℕ, suc, ◌+◌, ◌-◌, ◌≤◌, ◌<◌, ◌^◌}
-use mathlib.Core.Path.{◌≡◌, refl, sym, ap, ◌∙◌}
+use Prim.Native.Nat.{suc, ◌-◌, ◌≤◌, ◌<◌}
+use mathlib.Core.Path.{◌≡◌, refl, sym, ◌∙◌}
 use native.Mathlib.Omega.{arith}
-use Rattle.text.specs.Hex.{hex_of, spell}
+use Rattle.text.specs.Hex.{hex_of}
 use Rattle.text.proofs.HexPut.{spell_turn, bound_turn, more_turns}
 use Rattle.text.proofs.copy_hex.Goals as goal
 

@@ -1,11 +1,7 @@
-use lib.ListN.{length, length-set, drop, take, set}
-use Rattle.text.proofs.HexPut.{spelled_part}
-use Rattle.text.proofs.HexLaws.{hex_length}
-use Prim.Native.Nat.{ℕ, suc, ◌+◌, ◌-◌, ◌≤◌, ◌<◌, ◌^◌}
-use mathlib.Core.Path.{◌≡◌, refl, sym, ap, ◌∙◌}
-use native.Mathlib.Omega.{arith}
+use lib.ListN.{length, drop}
+use Prim.Native.Nat.{◌≤◌, ◌<◌, ◌^◌}
+use mathlib.Core.Path.{◌≡◌}
 use Rattle.text.specs.Hex.{hex_of, spell}
-use Rattle.text.proofs.HexPut.{spell_turn, bound_turn, more_turns}
 use Rattle.text.proofs.copy_hex.Given as goal
 
 abbrev pub invariant-loop-v : goal.invariant-loop-v

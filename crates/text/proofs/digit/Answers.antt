@@ -1,6 +1,6 @@
 use native.Mathlib.Omega.{arith}
 use mathlib.Core.Path.{sym, ◌∙◌}
-use Rattle.text.specs.Hex.{between, digit}
+use Rattle.text.specs.Hex.{digit}
 use Rattle.text.proofs.HexLaws.{between_low}
 use Rattle.text.proofs.digit.Goals as goal
 

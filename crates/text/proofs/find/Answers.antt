@@ -1,8 +1,4 @@
-use Prim.Native.Nat.{◌+◌, ◌-◌, ◌≤◌}
-use mathlib.Core.Path.{◌≡◌}
 use native.Mathlib.Omega.{arith}
-use lib.ListN.{length, drop}
-use Rattle.text.specs.Split.{until}
 use Rattle.text.proofs.SplitLaws.{until_miss, until_hit, until_end}
 use Rattle.text.proofs.find.Goals as goal
 

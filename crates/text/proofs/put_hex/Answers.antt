@@ -1,5 +1,4 @@
 use mathlib.Core.Path.{sym, ◌∙◌}
-use lib.ListN.{length}
 use Rattle.text.proofs.PutLaws.{room_left, wrote_yes, wrote_no}
 use Rattle.text.specs.Hex.{hex_of}
 use Rattle.text.proofs.put_hex.Goals as goal

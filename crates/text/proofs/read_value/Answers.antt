@@ -1,11 +1,9 @@
-use Prim.Native.Nat.{ℕ, ◌+◌, ◌*◌, ◌-◌, ◌≤◌, ◌<◌, ◌^◌}
+use Prim.Native.Nat.{◌+◌, ◌*◌, ◌≤◌, ◌<◌}
 use lib.Dec.{lit<}
-use mathlib.Core.Path.{◌≡◌, refl, sym, ◌∙◌, subst}
-use mathlib.Core.Bool.{true}
-use mathlib.Core.Logic.{⊎_elim}
+use mathlib.Core.Path.{refl, sym, ◌∙◌}
 use native.Mathlib.Omega.{arith}
-use lib.ListN.{length, drop, get_or}
-use Rattle.text.specs.Hex.{digit, digits, number, lean}
+use lib.ListN.{length, get_or}
+use Rattle.text.specs.Hex.{digit}
 use Rattle.text.proofs.HexLaws.{digits_more, digits_stop, digits_end, number_more, number_end, bound_more, bound_fits}
 use Rattle.text.proofs.HexLaws.{value_long, value_lean, value_digits, value_good, lean_empty, lean_one, lean_zero, lean_other}
 use Rattle.text.proofs.read_value.Goals as goal

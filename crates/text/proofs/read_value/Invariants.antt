@@ -1,13 +1,8 @@
-use Prim.Native.Nat.{ℕ, ◌+◌, ◌*◌, ◌-◌, ◌≤◌, ◌<◌, ◌^◌}
-use lib.Dec.{lit<}
-use mathlib.Core.Path.{◌≡◌, refl, sym, ◌∙◌, subst}
+use Prim.Native.Nat.{◌-◌, ◌≤◌, ◌<◌, ◌^◌}
+use mathlib.Core.Path.{◌≡◌}
 use mathlib.Core.Bool.{true}
-use mathlib.Core.Logic.{⊎_elim}
-use native.Mathlib.Omega.{arith}
-use lib.ListN.{length, drop, get_or}
-use Rattle.text.specs.Hex.{digit, digits, number, lean}
-use Rattle.text.proofs.HexLaws.{digits_more, digits_stop, digits_end, number_more, number_end, bound_more, bound_fits}
-use Rattle.text.proofs.HexLaws.{value_long, value_lean, value_digits, value_good, lean_empty, lean_one, lean_zero, lean_other}
+use lib.ListN.{length, drop}
+use Rattle.text.specs.Hex.{digits, number, lean}
 use Rattle.text.proofs.read_value.Given as goal
 
 abbrev pub invariant-loop-i : goal.invariant-loop-i

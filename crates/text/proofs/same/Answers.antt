@@ -1,8 +1,5 @@
-use Prim.Native.Nat.{◌-◌, ◌≤◌}
-use mathlib.Core.Path.{◌≡◌, refl, sym, ◌∙◌}
+use mathlib.Core.Path.{refl, sym, ◌∙◌}
 use native.Mathlib.Omega.{arith}
-use lib.ListN.{length, drop}
-use Rattle.text.specs.Split.{same}
 use Rattle.text.proofs.SplitLaws.{same_more, same_stop, same_end, same_lengths}
 use Rattle.text.proofs.same.Goals as goal
 

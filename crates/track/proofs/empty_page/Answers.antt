@@ -1,4 +1,4 @@
-use mathlib.Core.Path.{◌≡◌, refl, ap, sym, ◌∙◌}
+use mathlib.Core.Path.{sym}
 use lib.Seq.{set_out}
 use Rattle.track.proofs.empty_page.Goals as goal
 

@@ -1,10 +1,8 @@
-use Prim.Native.Nat.{ℕ, ◌≤◌, ◌-◌, zero-le}
-use native.Mathlib.Nat.{le_antisymm}
-use lib.ListN.{length, length-set}
-use Rattle.model.specs.step.Rows.{map_first}
+use Prim.Native.Nat.{ℕ, zero-le}
+use lib.ListN.{length-set}
 use Rattle.track.proofs.Rows.{turn}
 use native.Mathlib.Omega.{arith}
-use mathlib.Core.Path.{◌≡◌, refl, ap, sym, ◌∙◌}
+use mathlib.Core.Path.{refl}
 use Rattle.track.proofs.Rows.{all_turns}
 use Rattle.track.proofs.empty_row.Goals as goal
 

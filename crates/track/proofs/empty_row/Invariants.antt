@@ -1,11 +1,7 @@
-use Prim.Native.Nat.{ℕ, ◌≤◌, ◌-◌, zero-le}
-use native.Mathlib.Nat.{le_antisymm}
-use lib.ListN.{length, length-set}
+use Prim.Native.Nat.{ℕ, ◌≤◌, ◌-◌}
+use lib.ListN.{length}
 use Rattle.model.specs.step.Rows.{map_first}
-use Rattle.track.proofs.Rows.{turn}
-use native.Mathlib.Omega.{arith}
-use mathlib.Core.Path.{◌≡◌, refl, ap, sym, ◌∙◌}
-use Rattle.track.proofs.Rows.{all_turns}
+use mathlib.Core.Path.{◌≡◌}
 use Rattle.track.proofs.empty_row.Given as goal
 
 abbrev pub invariant-loop-p : goal.invariant-loop-p

@@ -1,12 +1,9 @@
-use Prim.Native.Nat.{ℕ, ◌≤◌, ◌-◌, zero-le}
-use native.Mathlib.Nat.{le_antisymm}
-use native.Mathlib.Omega.{arith}
-use mathlib.Core.Path.{◌≡◌, refl, ap, sym, ◌∙◌}
+use Prim.Native.Nat.{◌≤◌, ◌-◌}
+use mathlib.Core.Path.{◌≡◌}
 use lib.ListN.{length}
 use Rattle.model.specs.Limits.{row_size}
 use Rattle.model.specs.step.Rows.{each_row}
-use Rattle.model.specs.step.Track.{empty_row, flush_context, flush_all}
-use Rattle.track.proofs.Rows.{row_turn}
+use Rattle.model.specs.step.Track.{empty_row}
 use Rattle.track.proofs.flush_all.Given as goal
 
 abbrev pub invariant-loop-c : goal.invariant-loop-c

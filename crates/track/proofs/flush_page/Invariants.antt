@@ -1,14 +1,9 @@
-use Prim.Native.Nat.{ℕ, ◌+◌, ◌*◌, ◌-◌, ◌≤◌, ◌<◌, zero-le}
-use native.Mathlib.Nat.{le_antisymm, suc-mul, zero-mul, add-sub_cancel_left}
-use native.Mathlib.Numerals.{add-one}
-use native.Mathlib.Omega.{arith}
-use mathlib.Core.Path.{◌≡◌, refl, ap, sym, ◌∙◌}
+use Prim.Native.Nat.{◌+◌, ◌*◌, ◌-◌, ◌≤◌, ◌<◌}
+use mathlib.Core.Path.{◌≡◌}
 use lib.ListN.{length}
 use Rattle.model.specs.Limits.{row_size}
 use Rattle.model.specs.step.Rows.{each_row}
-use Rattle.model.specs.step.Track.{empty_page, flush_page}
-use Rattle.limits.proofs.Sizes.{row_room}
-use Rattle.track.proofs.Rows.{put_at, row_turn}
+use Rattle.model.specs.step.Track.{empty_page}
 use Rattle.track.proofs.flush_page.Given as goal
 
 abbrev pub invariant-loop-c : goal.invariant-loop-c

@@ -1,5 +1,5 @@
 use Prim.Native.Nat.{ℕ}
-use mathlib.Core.Path.{◌≡◌, ap, sym, ◌∙◌}
+use mathlib.Core.Path.{ap, sym, ◌∙◌}
 use mathlib.Core.Bool.{Bool, true, cond}
 use lib.ListN.{length}
 use Rattle.model.specs.step.Track.{last_row, word_at, stale_word, stale_page}

@@ -1,10 +1,9 @@
-use mathlib.Core.Path.{sym, ap, ap₂, ◌∙◌, refl}
+use mathlib.Core.Path.{sym, ap, ◌∙◌}
 use Rattle.transfer.proofs.Laws.{regive, turned}
-use Rattle.model.specs.step.Machine.{After, carried, read_from, write_to, read_step, write_step, operate, after_checks, stepped, started, started_by, value_of}
+use Rattle.model.specs.step.Machine.{carried, read_from, value_of}
 use Rattle.model.specs.declared.Access.{Access}
 use Rattle.model.specs.declared.Answer.TheVariants.{Done}
 use Prim.Native.Nat.{ℕ}
-use mathlib.Core.List.{List}
 use Rattle.transfer.proofs.read_from.Goals as goal
 
 pub returns-in-Stale : goal.returns-in-Stale

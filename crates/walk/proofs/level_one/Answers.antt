@@ -1,4 +1,4 @@
-use mathlib.Core.Path.{ap, sym, ◌∙◌}
+use mathlib.Core.Path.{◌∙◌}
 use Rattle.memory.proofs.Laws.{via}
 use Rattle.model.specs.step.Walk.{first_from, first_at}
 use Rattle.model.specs.declared.Loaded.{Loaded}

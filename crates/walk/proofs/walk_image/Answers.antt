@@ -1,5 +1,5 @@
-use mathlib.Core.Path.{ap, sym, ◌∙◌}
-use Rattle.model.specs.step.WalkAnswer.{walk_answer, outcome_number}
+use mathlib.Core.Path.{sym, ◌∙◌}
+use Rattle.model.specs.step.WalkAnswer.{walk_answer}
 use Rattle.walk.proofs.walk_image.Goals as goal
 
 pub returns-then-in_window : goal.returns-then-in_window
