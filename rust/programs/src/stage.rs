@@ -21,6 +21,7 @@ impl Stage {
         let shared = [
             name,
             "crates.txt",
+            "scripts/archives",
             "scripts/program.sh",
             "scripts/images.sh",
             "scripts/places.awk",
@@ -96,14 +97,18 @@ impl Stage {
     /// The command, whose program prints this text.
     pub fn command(&self, text: impl AsRef<[u8]>) -> Command {
         fs::write(self.at("prints"), text).expect("the text");
+        let mut command = self.command_at(self.name);
+        command.env("PRINTS", self.at("prints"));
+        command
+    }
+
+    /// A command of the stage, with its toolchain.
+    pub fn command_at(&self, name: &str) -> Command {
         let mut path = self.at("kit/bin").into_os_string();
         path.push(":");
         path.push(env::var_os("PATH").expect("PATH is set"));
-        let mut command = kept(Command::new(self.at(self.name)));
-        command
-            .env("RATTLE_HOME", self.at("kit"))
-            .env("PATH", path)
-            .env("PRINTS", self.at("prints"));
+        let mut command = kept(Command::new(self.at(name)));
+        command.env("RATTLE_HOME", self.at("kit")).env("PATH", path);
         command
     }
 }

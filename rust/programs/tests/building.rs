@@ -183,6 +183,37 @@ fn the_program_without_a_toolchain() {
     assert!(verdict.starts_with("not clean: 1 line stale"), "{error}");
 }
 
+/// The archives are what the toolchain builds of the crates of C functions, under the names that callers link. One that cannot be
+/// made says so, and leaves the others as they are.
+#[test]
+fn the_archives() {
+    let stage = Stage::new("replay");
+    for name in ["walk_c", "ffi_c", "report_ffi"] {
+        fs::create_dir_all(stage.crate_of(name)).expect("a crate");
+    }
+    let archives = |names: &[&str]| ended(stage.command_at("scripts/archives").args(names));
+    let made = |name: &str| fs::read_to_string(stage.at("target/staticlib").join(name)).ok();
+    let builds = "[ \"$1\" = lib ] || exit 1
+built=${PWD##*/}
+mkdir -p out && echo $built >out/lib$built.a";
+    stage.script("kit/bin/rt", builds);
+    assert_eq!(archives(&["walk", "ffi"]), prints(""));
+    assert_eq!(made("libwalk.a").as_deref(), Some("walk_c\n"));
+    assert_eq!(made("libffi.a").as_deref(), Some("ffi_c\n"));
+    assert_eq!(made("libreport_ffi.a"), None);
+    assert_eq!(archives(&[]), prints(""));
+    assert_eq!(made("libreport_ffi.a").as_deref(), Some("report_ffi\n"));
+    let refused = |names: &[&str], why: &str| {
+        let (status, printed, error) = archives(names);
+        assert_eq!((status, printed.as_str()), (2, ""));
+        assert!(error.contains(why), "{error}");
+    };
+    refused(&["walk_c"], "there is no archive walk_c");
+    stage.script("kit/bin/rt", "exit 1");
+    refused(&["walk"], "'rt lib' in crates/walk_c says why");
+    assert_eq!(made("libwalk.a").as_deref(), Some("walk_c\n"));
+}
+
 #[test]
 fn a_checkout_that_cannot_be_written() {
     let stage = unbuilt();
