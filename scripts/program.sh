@@ -61,7 +61,7 @@ copy_crates() { # FOLDER [CRATE..]
         cp "$here/crates.txt" "$folder/"
         set -- $(cd "$here/crates" && echo */)
     else
-        for name in "$@"; do grep "^$name[ :]" "$here/crates.txt"; done >"$folder/crates.txt"
+        for name in "$@"; do grep "^${name}[ :]" "$here/crates.txt"; done >"$folder/crates.txt"
     fi
     [ ! -e "$here/HANDLES" ] || cp "$here/HANDLES" "$folder/"
     for name in "$@"; do
