@@ -5,7 +5,8 @@ usage: tools/respell.py [--check]      at the top of the repository
 
 It goes over crates/*/specs, crates/*/proofs the clauses of crates/*/src and the names in backquotes in README.md and docs/. A name is the repository's own if a file of specs/ or a file of
 lemmas declares it. It stays in a file that takes it from a library. A lemma that would get the name of a definition, somewhere in one file, gets _lem
-behind it. --check writes nothing and lists the names that would fall together with another of the same file.
+behind it. A definition that a contract has under an alias with a dot or a dash in it (past as Split·past) is called by its own name there. --check writes
+nothing and lists the names that would fall together with another of the same file.
 """
 import collections
 import glob
@@ -104,6 +105,15 @@ def turn_rt(text, table):
     return re.sub(r"//[^\n]*", lambda m: turn_prose(m[0], prose, table), text)
 
 
+def without_aliases(text):
+    """The text with the definitions that it takes under an alias with a dot or a dash called by their own names."""
+    aliases = re.findall(r"\b(\w+) as ([A-Z]\w*[·-]\w+)", text)
+    for name, alias in aliases:
+        text = text.replace(f"{name} as {alias}", name)
+        text = re.sub(rf"(?<![\w·-]){re.escape(alias)}(?![\w·-])", name, text)
+    return text
+
+
 def turn_page(text, table):
     """In a page the names stand in backquotes."""
     return SPAN.sub(lambda m: "`" + turn(m[1], table, table) + "`", text)
@@ -157,7 +167,7 @@ def main(check):
     for p, t in texts.items():
         rows = {n: s for n, s in table.items() if n not in stay[p]}
         if p.endswith(".rt"):
-            new = turn_rt(t, rows)
+            new = without_aliases(turn_rt(t, rows))
         else:
             dotted = {n for n in rows if "-" not in n} if of_function(p) else rows
             rows = rows if of_function(p) else {**lemmas, **rows}

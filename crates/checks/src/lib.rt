@@ -12,6 +12,7 @@ use limits::{
 use model::{Check, Kind, OLD_SPLIT, OLD_WINDOW, Operation, Refusal, Registers, Setting};
 
 // Whether the size of a read or a write is one.
+#[tactic(auto, unfolding(model::specs::step::Checks::size_fits))]
 pub fn size_fits(kind: Kind, b: u32) -> bool
     ensures { result ≡ size_fits kind b }
 {
@@ -23,6 +24,7 @@ pub fn size_fits(kind: Kind, b: u32) -> bool
 }
 
 // Whether the virtual address of an operation lies in the window.
+#[tactic(auto, unfolding(model::specs::step::Checks::address_fits))]
 pub fn address_fits(window: u32, kind: Kind, a: u32) -> bool
     ensures { result ≡ address_fits window kind a }
 {
@@ -38,6 +40,7 @@ pub fn address_fits(window: u32, kind: Kind, a: u32) -> bool
 }
 
 // Whether the value of a write fits its size.
+#[tactic(auto, unfolding(model::specs::step::Checks::value_fits))]
 pub fn value_fits(kind: Kind, b: u32, c: u32) -> bool
     ensures { result ≡ value_fits kind b c }
 {
@@ -48,6 +51,7 @@ pub fn value_fits(kind: Kind, b: u32, c: u32) -> bool
 }
 
 // Whether a new root has its alignment.
+#[tactic(auto, unfolding(model::specs::step::Checks::new_root_fits))]
 pub fn new_root_fits(split: u32, kind: Kind, a: u32) -> bool
     ensures { result ≡ new_root_fits split kind a }
 {
@@ -58,6 +62,7 @@ pub fn new_root_fits(split: u32, kind: Kind, a: u32) -> bool
 }
 
 // Whether the context that an operation names is one of k.
+#[tactic(auto, unfolding(model::specs::step::Checks::context_fits))]
 pub fn context_fits(kind: Kind, a: u32, b: u32, k: usize) -> bool
     ensures { result ≡ context_fits kind a b k }
 {
@@ -70,6 +75,7 @@ pub fn context_fits(kind: Kind, a: u32, b: u32, k: usize) -> bool
 }
 
 // Whether a new mode is one.
+#[tactic(auto, unfolding(model::specs::step::Checks::mode_fits))]
 pub fn mode_fits(kind: Kind, a: u32) -> bool
     ensures { result ≡ mode_fits kind a }
 {
@@ -80,6 +86,7 @@ pub fn mode_fits(kind: Kind, a: u32) -> bool
 }
 
 // Whether no field of a new domain register is 2.
+#[tactic(auto, unfolding(model::specs::step::Checks::new_domains_fit))]
 pub fn new_domains_fit(kind: Kind, a: u32) -> bool
     ensures { result ≡ new_domains_fit kind a }
 {
@@ -90,6 +97,7 @@ pub fn new_domains_fit(kind: Kind, a: u32) -> bool
 }
 
 // Whether an operation may be asked for in this mode.
+#[tactic(auto, unfolding(model::specs::step::Checks::may_ask))]
 pub fn may_ask(kind: Kind, mode: u32) -> bool
     ensures { result ≡ may_ask kind mode }
 {
@@ -103,6 +111,7 @@ pub fn may_ask(kind: Kind, mode: u32) -> bool
 }
 
 // Whether an operation, if it sets the root, may do so in this context.
+#[tactic(auto, unfolding(model::specs::step::Checks::root_may_change))]
 pub fn root_may_change(kind: Kind, context: u32) -> bool
     ensures { result ≡ root_may_change kind context }
 {

@@ -4,7 +4,7 @@
 
 ghost use Rattle.std.specs.Prelude.{◌≡◌, List, ℕ, ◌≤◌, length, take, replicate};
 ghost use Rattle.lines.specs.Form.{pair_of, line_of};
-ghost use Rattle.line_reader.specs.Reading.{fresh, line_after, turn, late_turn, accept, with_byte, names_ended, word_ended, line_ended, byte_taken, step as Reading-step, feed as Reading·feed, is_decided, complete, last_test, refusal_call, end_call, finished, finished_file};
+ghost use Rattle.line_reader.specs.Reading.{fresh, line_after, turn, late_turn, accept, with_byte, names_ended, word_ended, line_ended, byte_taken, step, feed, is_decided, complete, last_test, refusal_call, end_call, finished, finished_file};
 
 use lines::Line;
 use model::Size;
@@ -220,7 +220,7 @@ pub fn is_decided(r: Reader) -> bool
 
 // A byte.
 fn step(r: Reader, b: u8, line: &mut [u8], image: &mut [u8]) -> Reader
-    ensures { record { reader = result; line = line.new; image = image.new } ≡ Reading-step b (record { reader = r; line = line.old; image = image.old }) }
+    ensures { record { reader = result; line = line.new; image = image.new } ≡ step b (record { reader = r; line = line.old; image = image.old }) }
 {
     if is_decided(r) {
         return r;
@@ -230,7 +230,7 @@ fn step(r: Reader, b: u8, line: &mut [u8], image: &mut [u8]) -> Reader
 
 // The bytes of a part of the input.
 pub fn feed(r: Reader, part: &[u8], line: &mut [u8], image: &mut [u8]) -> Reader
-    ensures { record { reader = result; line = line.new; image = image.new } ≡ Reading·feed part.now (record { reader = r; line = line.old; image = image.old }) }
+    ensures { record { reader = result; line = line.new; image = image.new } ≡ feed part.now (record { reader = r; line = line.old; image = image.old }) }
 {
     let mut reader = r;
     let mut i = 0;

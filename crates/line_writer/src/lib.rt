@@ -7,7 +7,7 @@ ghost use Rattle.lines.specs.Form.{pair_text, pair_room};
 ghost use Rattle.lines.specs.Words.{word_of, has_line, words_from};
 ghost use Rattle.lines.specs.Ways.{length_fits, lines_text, text_of};
 ghost use Rattle.lines.specs.Settings.{image_limit};
-ghost use Rattle.line_writer.specs.Call.{place_after_word, wrote_word, called, room_for as Call·roomFor};
+ghost use Rattle.line_writer.specs.Call.{place_after_word, wrote_word, called, room_for};
 
 // What a call answers: how long the text is, or why there is none.
 #[derive(Clone, Copy)]
@@ -96,7 +96,7 @@ fn put_text(image: &[u8], out: &mut [u8]) -> usize
 
 // How many bytes a buffer needs for the lines of an image of n bytes.
 fn room_for(limit: usize, n: usize) -> usize
-    ensures { result ≡ Call·roomFor limit n }
+    ensures { result ≡ room_for limit n }
 {
     if length_fits(limit, n) {
         return 18 + 18 * (n / 4);

@@ -3,9 +3,9 @@
 #![tactic(auto)]
 
 ghost use Rattle.std.specs.Prelude.{◌≡◌, ◌<◌};
-ghost use Rattle.text.specs.Split.{past as Split·past};
+ghost use Rattle.text.specs.Split.{past};
 ghost use Rattle.names.specs.Names.{newline};
-ghost use Rattle.listing.specs.Line.{used as Line·used, spare as Line·spare, op_of, judged, values_of, field_a, field_b, field_c, fields_of, line_of};
+ghost use Rattle.listing.specs.Line.{used, spare, op_of, judged, values_of, field_a, field_b, field_c, fields_of, line_of};
 ghost use Rattle.listing.specs.Whole.{too_long, has_names, list_number, line_number};
 
 use model::{Kind, Operation};
@@ -53,7 +53,7 @@ pub fn list_number(x: Reason) -> u32
 
 // How many of the fields a, b, c an operation uses.
 pub fn used(k: Kind) -> u32
-    ensures { result ≡ Line·used k }
+    ensures { result ≡ used k }
 {
     match k {
         Kind::Read => 2,
@@ -72,7 +72,7 @@ pub fn used(k: Kind) -> u32
 
 // Whether field i, counted from 0, is one of the first n, or 0.
 fn spare(n: u32, i: u32, x: u32) -> bool
-    ensures { result ≡ Line·spare n i x }
+    ensures { result ≡ spare n i x }
 {
     if i < n { true } else { x == 0 }
 }
@@ -179,7 +179,7 @@ pub fn read_line(list: &[u8]) -> Line
 
 // What is left of a list after its first line.
 pub fn rest(list: &[u8]) -> &[u8]
-    ensures { result.now ≡ Split·past newline list.now }
+    ensures { result.now ≡ past newline list.now }
 {
     text::past(list, b'\n')
 }

@@ -3,7 +3,7 @@
 
 ghost use Rattle.std.specs.Prelude.{◌≡◌, ◌+◌, ◌≤◌, length};
 ghost use Rattle.text.specs.Put.{over, wrote, place_after};
-ghost use Rattle.names.specs.Names.{name as Names·name, named_of};
+ghost use Rattle.names.specs.Names.{name, named_of};
 
 use model::Kind;
 
@@ -56,7 +56,7 @@ pub fn name_of(s: &[u8]) -> Named
 
 // Puts the name of an operation, where 7 bytes are left for it.
 pub fn put_name(out: &mut [u8], at: usize, k: Kind) -> usize
-    ensures { (result ≡ place_after 7 out.old at (Names·name k)) × (out.new ≡ wrote 7 out.old at (Names·name k)) }
+    ensures { (result ≡ place_after 7 out.old at (name k)) × (out.new ≡ wrote 7 out.old at (name k)) }
 {
     if text::has_room(out, at, 7) {
         return copy_name(out, at, k);
@@ -67,7 +67,7 @@ pub fn put_name(out: &mut [u8], at: usize, k: Kind) -> usize
 // The name of an operation, where there is room for it.
 fn copy_name(out: &mut [u8], at: usize, k: Kind) -> usize
     requires { at + 7 ≤ length out.old }
-    ensures { (result ≡ at + length (Names·name k)) × (out.new ≡ over out.old at (Names·name k)) }
+    ensures { (result ≡ at + length (name k)) × (out.new ≡ over out.old at (name k)) }
 {
     match k {
         Kind::Read => text::put(out, at, b"read"),

@@ -4,8 +4,8 @@
 ghost use Rattle.std.specs.Prelude.{◌≡◌, ◌+◌, ◌≤◌, length};
 ghost use Rattle.text.specs.Put.{over, wrote, place_after};
 ghost use Rattle.model.specs.Numbers.{refused, shown};
-ghost use Rattle.names.specs.Names.{name as Names·name};
-ghost use Rattle.report_line.specs.Text.{header, no_name, start_name, word as Text·word, value as Text·value, report_line, line_room};
+ghost use Rattle.names.specs.Names.{name};
+ghost use Rattle.report_line.specs.Text.{header, no_name, start_name, word, value, report_line, line_room};
 
 use model::{Answer, Kind};
 
@@ -19,7 +19,7 @@ pub fn put_header(out: &mut [u8], at: usize) -> usize
 // The word for an answer.
 fn put_word(out: &mut [u8], at: usize, a: Answer) -> usize
     requires { at + 7 ≤ length out.old }
-    ensures { (result ≡ at + length (Text·word (shown a))) × (out.new ≡ over out.old at (Text·word (shown a))) }
+    ensures { (result ≡ at + length (word (shown a))) × (out.new ≡ over out.old at (word (shown a))) }
 {
     match a {
         Answer::Done(_) => text::put(out, at, b"ok"),
@@ -30,7 +30,7 @@ fn put_word(out: &mut [u8], at: usize, a: Answer) -> usize
 
 // The number that an answer shows.
 pub fn value(a: Answer) -> u32
-    ensures { result ≡ Text·value (shown a) }
+    ensures { result ≡ value (shown a) }
 {
     match a {
         Answer::Done(v) => v,
@@ -42,7 +42,7 @@ pub fn value(a: Answer) -> u32
 // The line of an operation, where there is room for it.
 fn copy_answer(out: &mut [u8], at: usize, line: u32, k: Kind, a: Answer) -> usize
     requires { at + 34 ≤ length out.old }
-    ensures { (result ≡ at + length (report_line line (Names·name k) (shown a))) × (out.new ≡ over out.old at (report_line line (Names·name k) (shown a))) }
+    ensures { (result ≡ at + length (report_line line (name k) (shown a))) × (out.new ≡ over out.old at (report_line line (name k) (shown a))) }
 {
     let p1 = text::put_hex(out, at, line);
     let p2 = text::put(out, p1, b",");
@@ -56,7 +56,7 @@ fn copy_answer(out: &mut [u8], at: usize, line: u32, k: Kind, a: Answer) -> usiz
 
 // Puts the line of an operation.
 pub fn put_answer(out: &mut [u8], at: usize, line: u32, k: Kind, a: Answer) -> usize
-    ensures { (result ≡ place_after line_room out.old at (report_line line (Names·name k) (shown a))) × (out.new ≡ wrote line_room out.old at (report_line line (Names·name k) (shown a))) }
+    ensures { (result ≡ place_after line_room out.old at (report_line line (name k) (shown a))) × (out.new ≡ wrote line_room out.old at (report_line line (name k) (shown a))) }
 {
     if text::has_room(out, at, 34) { // line_room
         return copy_answer(out, at, line, k, a);

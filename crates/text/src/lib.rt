@@ -3,8 +3,8 @@
 #![tactic(auto)]
 
 ghost use Rattle.std.specs.Prelude.{◌≡◌, ◌+◌, ◌<◌, ◌≤◌, length};
-ghost use Rattle.text.specs.Split.{has as Split·has, until as Split·until, past as Split·past, same as Split·same};
-ghost use Rattle.text.specs.Hex.{value_of, between as Hex·between, digit as Hex·digit, glyph as Hex·glyph, hex_of};
+ghost use Rattle.text.specs.Split.{has, until, past, same};
+ghost use Rattle.text.specs.Hex.{value_of, between, digit, glyph, hex_of};
 ghost use Rattle.text.specs.Put.{over, has_room, wrote, place_after};
 
 // What a value of a list is: a number, or misspelled.
@@ -16,7 +16,7 @@ pub enum Value {
 
 // The place of the first b, or the length where there is none.
 pub fn find(s: &[u8], b: u8) -> usize
-    ensures { result ≡ length (Split·until b s.now) }
+    ensures { result ≡ length (until b s.now) }
 {
     let mut i = 0;
     while i < s.len() {
@@ -30,14 +30,14 @@ pub fn find(s: &[u8], b: u8) -> usize
 
 // Whether b stands in s.
 pub fn has(s: &[u8], b: u8) -> bool
-    ensures { result ≡ Split·has b s.now }
+    ensures { result ≡ has b s.now }
 {
     find(s, b) < s.len()
 }
 
 // The part before the first b.
 pub fn until(s: &[u8], b: u8) -> &[u8]
-    ensures { result.now ≡ Split·until b s.now }
+    ensures { result.now ≡ until b s.now }
 {
     let n = find(s, b);
     &s[..n]
@@ -45,7 +45,7 @@ pub fn until(s: &[u8], b: u8) -> &[u8]
 
 // The part after the first b.
 pub fn past(s: &[u8], b: u8) -> &[u8]
-    ensures { result.now ≡ Split·past b s.now }
+    ensures { result.now ≡ past b s.now }
 {
     let n = find(s, b);
     if n < s.len() { &s[n + 1..] } else { &s[n..] }
@@ -53,7 +53,7 @@ pub fn past(s: &[u8], b: u8) -> &[u8]
 
 // Whether two slices hold the same bytes.
 pub fn same(a: &[u8], b: &[u8]) -> bool
-    ensures { result ≡ Split·same a.now b.now }
+    ensures { result ≡ same a.now b.now }
 {
     if a.len() != b.len() {
         return false;
@@ -70,7 +70,7 @@ pub fn same(a: &[u8], b: &[u8]) -> bool
 
 // Whether x is one of low to high.
 fn between(low: u8, high: u8, x: u8) -> bool
-    ensures { result ≡ Hex·between low high x }
+    ensures { result ≡ between low high x }
 {
     if low <= x {
         return x <= high;
@@ -80,7 +80,7 @@ fn between(low: u8, high: u8, x: u8) -> bool
 
 // What a byte is worth as a hexadecimal digit, or 16.
 pub fn digit(x: u8) -> u32
-    ensures { result ≡ Hex·digit x }
+    ensures { result ≡ digit x }
 {
     if between(b'0', b'9', x) {
         return x as u32 - 48;
@@ -155,7 +155,7 @@ pub fn put(out: &mut [u8], at: usize, text: &[u8]) -> usize
 // The byte of a digit below 16.
 fn glyph(d: u32) -> u8
     requires { d < 16 }
-    ensures { result ≡ Hex·glyph d }
+    ensures { result ≡ glyph d }
 {
     if d < 10 { 48 + d as u8 } else { 87 + d as u8 }
 }
