@@ -1,9 +1,9 @@
 #!/usr/bin/env python3
 """Spells the repository's own definitions and lemmas in snake case: loadAt and load-at become load_at.
 
-usage: tools/respell.py [--check]      at the top of the repository
+usage: tools/respell.py [--check]      at the top of the repository, once, as port.py left it
 
-It goes over crates/*/specs, crates/*/proofs the clauses of crates/*/src and the names in backquotes in README.md and docs/. A name is the repository's own if a file of specs/ or a file of
+It refuses a tree in which it ran. It goes over crates/*/specs, crates/*/proofs the clauses of crates/*/src and the names in backquotes in README.md and docs/. A name is the repository's own if a file of specs/ or a file of
 lemmas declares it. It stays in a file that takes it from a library. A lemma that would get the name of a definition, somewhere in one file, gets _lem
 behind it. A definition that a contract has under an alias with a dot or a dash in it (past as Split·past) is called by its own name there. --check writes
 nothing and lists the names that would fall together with another of the same file.
@@ -127,6 +127,9 @@ def main(check):
         if p.endswith(".antt") and not of_function(p):
             declared.update(DECLARED.findall(t))
             declared.update(CASE.findall(t))
+    if any(n + "_lem" in declared for n in LEMMAS):
+        print("respell.py ran here before: nothing was changed")
+        return 1
     table = {n: snake(n) for n in declared if n[0].islower() and snake(n) != n}
     for p, t in texts.items():
         here = set(WORD.findall(t))

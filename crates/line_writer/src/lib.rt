@@ -70,8 +70,8 @@ fn put_word(out: &mut [u8], place: usize, at: u32, w: u32, rest: &[u8]) -> usize
 
 // Puts the lines of an image's words.
 fn put_words(image: &[u8], out: &mut [u8], start: usize) -> usize
-    requires image_len_bound { length image.now ≤ 16777216 }
-    requires image_in_bounds { start + 18 * (length image.now / 4) ≤ length out.old }
+    requires size { length image.now ≤ 16777216 }
+    requires room { start + 18 * (length image.now / 4) ≤ length out.old }
     ensures { (result ≡ start + length (lines_text (words_from 0 image.now))) × (out.new ≡ over out.old start (lines_text (words_from 0 image.now))) }
 {
     let mut at: usize = 0;
@@ -86,8 +86,8 @@ fn put_words(image: &[u8], out: &mut [u8], start: usize) -> usize
 
 // The text of an image: the names, then the lines.
 fn put_text(image: &[u8], out: &mut [u8]) -> usize
-    requires image_len_bound { length image.now ≤ 16777216 }
-    requires image_in_bounds { 18 + 18 * (length image.now / 4) ≤ length out.old }
+    requires size { length image.now ≤ 16777216 }
+    requires room { 18 + 18 * (length image.now / 4) ≤ length out.old }
     ensures { (result ≡ length (text_of (words_from 0 image.now))) × (out.new ≡ over out.old 0 (text_of (words_from 0 image.now))) }
 {
     let at = text::put(out, 0, b"at,word\n");

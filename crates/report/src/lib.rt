@@ -43,8 +43,8 @@ pub fn looks_at_list(n: usize) -> bool
 
 // Carries out the lines of a list, the first of which is line 2, on a track that is noted, and puts their lines into the report.
 fn lines(r: Registers, m: &mut [u8], t: &mut [u32], list: &[u8], out: &mut [u8], at: usize) -> usize
-    requires list_len_bound { length list.now ≤ 65536 }
-    requires list_in_bounds { at + (4 * length list.now + 64) ≤ length out.old }
+    requires size { length list.now ≤ 65536 }
+    requires room { at + (4 * length list.now + 64) ≤ length out.old }
     requires noted { Noted old_window (record { memory = m.old; registers = r }) t.old }
     ensures { Ran (replayed 2 (record { answer = Done 0; registers = r; memory = m.old; track = t.old }) (read_lines (length list.now) 2 list.now)) out.old at result m.new t.new out.new }
 {
@@ -81,7 +81,7 @@ fn read_list(
     out: &mut [u8],
     at: usize,
 ) -> usize
-    requires at_in_bounds { at + 262208 ≤ length out.old }
+    requires room { at + 262208 ≤ length out.old }
     requires noted { Noted old_window (record { memory = m.old; registers = r }) t.old }
     ensures { Ran (replayed 2 (record { answer = Done 0; registers = r; memory = m.old; track = t.old }) (read_list list.now)) out.old at result m.new t.new out.new }
 {

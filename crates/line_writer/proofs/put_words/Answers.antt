@@ -6,7 +6,7 @@ use Rattle.line_writer.specs.Call.{place_after_word, wrote_word}
 use Rattle.line_writer.proofs.put_words.Goals as goal
 
 pub loop-at-init : goal.loop-at-init
-loop-at-init c = (going_start c.args.image.now c.args.out.now c.args.start c.requires.image_in_bounds, c.requires.image_len_bound)
+loop-at-init c = (going_start c.args.image.now c.args.out.now c.args.start c.requires.room, c.requires.size)
 
 pub overflow_add-at : goal.overflow_add-at
 overflow_add-at c = record { fits = omega (arith, c.loop-at.invariant.0.inside, c.loop-at.invariant.1) }

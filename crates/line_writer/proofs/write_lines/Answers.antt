@@ -37,7 +37,7 @@ put_text-requires c =
     let k = found a.limit a.n _ a.out.now _ c.room_for.ensures c.has_room.ensures ∙ c.if-not-has_room.false in
     let q = room_fits a.limit a.n a.out.now (sym c.length_fits.ensures ∙ c.if-length_fits.true) k in
     let e = length-take-le a.n a.image.now c.if-image-n.false in
-    record { image_len_bound = omega (arith, q.0, e); image_in_bounds = omega (arith, q.1, ap (λ (x : ℕ). x / 4) e) }
+    record { size = omega (arith, q.0, e); room = omega (arith, q.1, ap (λ (x : ℕ). x / 4) e) }
 
 pub returns-then-length_fits : goal.returns-then-length_fits
 returns-then-length_fits c =

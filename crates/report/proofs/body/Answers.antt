@@ -11,14 +11,14 @@ use Rattle.report.proofs.body.Goals as goal
 pub read_list-requires : goal.read_list-requires
 read_list-requires c =
     record {
-      at_in_bounds = omega (arith, c.requires);
+      room = omega (arith, c.requires);
       noted = noted_from c.args.m.now c.args.t.now c.start-begun.result _ _ c.start-begun.ensures (done_kept _ _ c.in-Done.is);
     }
 
 pub read_list-requires-in-Faulted : goal.read_list-requires-in-Faulted
 read_list-requires-in-Faulted c =
     record {
-      at_in_bounds = omega (arith, c.requires);
+      room = omega (arith, c.requires);
       noted = noted_from c.args.m.now c.args.t.now c.start-begun.result _ _ c.start-begun.ensures (faulted_kept _ _ c.in-Faulted.is);
     }
 

@@ -8,7 +8,7 @@ use Rattle.report.proofs.Running.{running_start, running_more, running_refused, 
 use Rattle.report.proofs.lines.Goals as goal
 
 pub loop-left-init : goal.loop-left-init
-loop-left-init c = running_start _ c.args.list.now c.args.out.now c.args.at c.requires.list_len_bound c.requires.list_in_bounds c.requires.noted
+loop-left-init c = running_start _ c.args.list.now c.args.out.now c.args.at c.requires.size c.requires.room c.requires.noted
 
 pub returns-in-Refused : goal.returns-in-Refused
 returns-in-Refused c =

@@ -14,7 +14,7 @@ use Rattle.report.proofs.ReportLaws.{read_long, read_names, read_none, not_long,
 use Rattle.report.proofs.read_list.Goals as goal
 
 pub returns-then-too_long : goal.returns-then-too_long
-returns-then-too_long c = ran_stopped _ c.args.list.now TooLong _ (read_long c.args.list.now (sym c.too_long.ensures ∙ c.if-too_long.true)) (omega (arith, c.requires.at_in_bounds))
+returns-then-too_long c = ran_stopped _ c.args.list.now TooLong _ (read_long c.args.list.now (sym c.too_long.ensures ∙ c.if-too_long.true)) (omega (arith, c.requires.room))
     c.list_number.ensures.0 c.put_refusal.ensures
 
 pub lines-requires : goal.lines-requires
@@ -22,8 +22,8 @@ lines-requires c =
     let l = c.args.list.now in
     let b = not_long l (sym c.too_long.ensures ∙ c.if-too_long.false) in
     record {
-      list_len_bound = omega (arith, ap length c.rest.ensures, past_length newline l, b);
-      list_in_bounds = omega (arith, ap length c.rest.ensures, past_length newline l, b, c.requires.at_in_bounds);
+      size = omega (arith, ap length c.rest.ensures, past_length newline l, b);
+      room = omega (arith, ap length c.rest.ensures, past_length newline l, b, c.requires.room);
       noted = c.requires.noted;
     }
 
@@ -37,5 +37,5 @@ returns-then-has_names c =
 
 pub returns : goal.returns
 returns c = ran_stopped _ c.args.list.now Names _
-    (read_none c.args.list.now (sym c.too_long.ensures ∙ c.if-too_long.false) (sym c.has_names.ensures ∙ c.if-has_names.false)) (omega (arith, c.requires.at_in_bounds))
+    (read_none c.args.list.now (sym c.too_long.ensures ∙ c.if-too_long.false) (sym c.has_names.ensures ∙ c.if-has_names.false)) (omega (arith, c.requires.room))
     c.list_number-2.ensures.0 c.put_refusal-2.ensures
