@@ -46,8 +46,8 @@ returns-in-Asid c = let a = c.args in
 pub returns-in-Mode : goal.returns-in-Mode
 unfolding run_operate operate extent_of flushed_by read_step write_step fetch_step
 returns-in-Mode c = let a = c.args in
-    finished _ _ _ _ _ c.done.ensures (ap (λ (q : Registers). plain (Done 0) q a.m.now a.t.now) c.with_mode.ensures
-    ∙ sym (ap (λ (c : Kind). run_operate c a.o a.r a.m.now a.t.now) c.in-Mode.is))
+    let e = sym (ap (λ (w : Kind). run_operate w a.o a.r a.m.now a.t.now) c.in-Mode.is) in
+    finished _ _ _ _ _ c.done.ensures (cc e)
 
 pub returns-in-All : goal.returns-in-All
 unfolding run_operate operate extent_of flushed_by read_step write_step fetch_step
