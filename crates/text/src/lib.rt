@@ -40,6 +40,7 @@ pub fn has(s: &[u8], b: u8) -> bool
 }
 
 // The part before the first b.
+#[tactic(auto, using(crate::proofs::SplitLaws::until_length, crate::proofs::SplitLaws::found_before))]
 pub fn until(s: &[u8], b: u8) -> &[u8]
     ensures { result.now ≡ until b s.now }
 {
@@ -47,6 +48,7 @@ pub fn until(s: &[u8], b: u8) -> &[u8]
 }
 
 // The part after the first b.
+#[tactic(auto, using(crate::proofs::SplitLaws::until_length, crate::proofs::SplitLaws::past_part, crate::proofs::SplitLaws::past_part_end))]
 pub fn past(s: &[u8], b: u8) -> &[u8]
     ensures { result.now ≡ past b s.now }
 {
