@@ -18,6 +18,8 @@ pub use Rattle.model.specs.declared.Purpose.{Purpose}
 pub use Rattle.model.specs.declared.Purpose.TheVariants.{ToRead, ToWrite, ToFetch}
 pub use Rattle.model.specs.declared.Loaded.{Loaded}
 pub use Rattle.model.specs.declared.Loaded.TheVariants.{Value, Outside}
+pub use Rattle.model.specs.declared.Rights.{Rights}
+pub use Rattle.model.specs.declared.Rights.TheVariants.{Nothing, Reading, Writing}
 pub use Rattle.model.specs.declared.Ruling.{Ruling}
 pub use Rattle.model.specs.declared.Ruling.TheVariants.{Allowed, PermissionDenied, DomainDenied}
 pub use Rattle.model.specs.declared.Pointer.{Pointer}
