@@ -22,7 +22,7 @@ use Rattle.model.specs.Types.{Registers, Tables, Operation, Kind, Read, Write, R
 use Rattle.model.proofs.BoolLaws.{push}
 use Rattle.model.proofs.Memory.{within_same, number_same, stored_same}
 use Rattle.model.proofs.Walk.{translation, walk_same}
-use Rattle.model.proofs.Rights.{ruling_same}
+use Rattle.model.proofs.Rulings.{ruling_same}
 use Rattle.model.proofs.Fields.{field_same}
 use Rattle.model.proofs.Words.{row_kind, walk_range, stale_same}
 

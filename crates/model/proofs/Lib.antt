@@ -2,7 +2,7 @@
 pub mod BoolLaws
 pub mod Memory
 pub mod Walk
-pub mod Rights
+pub mod Rulings
 pub mod Fields
 pub mod Checks
 pub mod Rows

@@ -17,6 +17,8 @@ pub use Rattle.model.specs.declared.Size.{Size}
 pub use Rattle.model.specs.declared.Size.TheVariants.{One, Two, Four}
 pub use Rattle.model.specs.declared.Purpose.{Purpose}
 pub use Rattle.model.specs.declared.Purpose.TheVariants.{ToRead, ToWrite, ToFetch}
+pub use Rattle.model.specs.declared.Rights.{Rights}
+pub use Rattle.model.specs.declared.Rights.TheVariants.{Nothing, Reading, Writing}
 pub use Rattle.model.specs.declared.Ruling.{Ruling}
 pub use Rattle.model.specs.declared.Ruling.TheVariants.{Allowed, PermissionDenied, DomainDenied}
 pub use Rattle.model.specs.declared.Pointer.{Pointer}

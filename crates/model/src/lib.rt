@@ -116,20 +116,28 @@ pub enum Size {
     Four,
 }
 
-// What an access is for: to read, to write, or to fetch an instruction.
+// What an access is for: to read, to write, or to fetch an instruction, numbered as the sheet of permissions orders them.
 #[derive(Clone, Copy)]
 pub enum Purpose {
-    ToRead,
-    ToWrite,
-    ToFetch,
+    ToRead = 0,
+    ToWrite = 1,
+    ToFetch = 2,
 }
 
-// What an entry's domain, access permissions and XN bit say of an access.
+// What access permissions allow in a mode: nothing, reading, or reading and writing, each more than the one before.
+#[derive(Clone, Copy, PartialEq, Eq, PartialOrd, Ord)]
+pub enum Rights {
+    Nothing,
+    Reading,
+    Writing,
+}
+
+// What an entry's domain, access permissions and XN bit say of an access, with the numbers of the sheet of permissions.
 #[derive(Clone, Copy)]
 pub enum Ruling {
-    Allowed,
-    PermissionDenied,
-    DomainDenied,
+    Allowed = 0,
+    PermissionDenied = 1,
+    DomainDenied = 2,
 }
 
 // What a level-one descriptor that points to a level-two table says: the address of the table, and the domain of its pages.

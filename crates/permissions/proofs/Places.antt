@@ -14,7 +14,7 @@ use Rattle.model.specs.declared.Purpose.TheVariants.{ToRead, ToWrite, ToFetch}
 use Rattle.model.specs.declared.Ruling.{Ruling}
 use Rattle.model.specs.declared.Ruling.TheVariants.{Allowed, PermissionDenied, DomainDenied}
 use Rattle.model.proofs.BoolLaws.{and_both}
-use Rattle.model.proofs.Rights.{ruling_same}
+use Rattle.model.proofs.Rulings.{ruling_same}
 use Rattle.permissions.specs.Sheet.{answer, each, answers, answer_at}
 use Rattle.permissions.specs.Places.{kind_place, kind_at, place_of, by_rules, agree}
 

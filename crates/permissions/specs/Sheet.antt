@@ -1,6 +1,6 @@
 -- The sheet: what is said of an access, for each AP, mode, kind of access, field of the entry's domain and XN. Its answers are those of the
 -- rules (`ruling`), in their order.
-use Rattle.std.specs.Prelude.{ℕ, ◌+◌, List, [], ◌∷◌, ◌++◌, get_or}
+use Rattle.std.specs.Prelude.{ℕ, ◌+◌, List, [], ◌∷◌, ◌++◌, get_or, Option, Some, None}
 use Rattle.model.specs.reference.Rules.{ruling}
 use Rattle.model.specs.declared.Purpose.{Purpose}
 use Rattle.model.specs.declared.Purpose.TheVariants.{ToRead, ToWrite, ToFetch}
@@ -12,6 +12,11 @@ abbrev pub answer : Ruling → ℕ
 answer Allowed = 0
 answer PermissionDenied = 1
 answer DomainDenied = 2
+
+-- what is said at a place as a number: 3 where there is no such place
+abbrev pub numbered : Option Ruling → ℕ
+numbered None = 3
+numbered (Some x) = answer x
 
 -- what the answers are ordered by: AP (8), mode (2), kind read, write, fetch (3), domain field (4) and XN (2)
 abbrev pub aps : List ℕ

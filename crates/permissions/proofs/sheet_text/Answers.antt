@@ -1,20 +1,21 @@
-use mathlib.Core.Path.{refl, ◌∙◌}
-use native.Mathlib.Omega.{arith}
+use Rattle.std.proofs.Common.{refl, ◌∙◌, arith, rules}
+use Rattle.permissions.specs.Sheet.{lines_of}
 use Rattle.permissions.proofs.Places.{answer_at_small}
 use Rattle.permissions.proofs.Text.{next_line, all_lines}
-use borrow.Author.Rules.{rules}
+use Rattle.permissions.proofs.sheet_text.Goals.{in-Some, in_default}
 use Rattle.permissions.proofs.sheet_text.Goals as goal
 
 pub loop-i-init : goal.loop-i-init
-loop-i-init c = (omega arith, c.blank-out.ensures, refl)
-
-pub overflow_add-out : goal.overflow_add-out
-overflow_add-out c = let k = c.loop-i.i in omega (arith, c.compute-x.ensures, answer_at_small k (search rules))
+unfolding lines_of
+loop-i-init c = (refl, refl)
 
 pub loop-i-preserved : goal.loop-i-preserved
 loop-i-preserved c =
     let l = c.loop-i in
-    (omega arith, l.invariant.1, next_line _ l.out l.i c.compute-x.result l.invariant.1 (search rules) c.compute-x.ensures l.invariant.2)
+    elim c.match-compute.branch [
+      | in-Some w ↦ rw w.out-is (search rules, next_line l.out l.i _ l.invariant.0 c.loop-i-test.true (w.number_of.ensures ∙ w.in-Some.ensures) l.invariant.1)
+      | in_default w ↦ absurd (let e : ⊥ = omega (arith, w.in_default.ensures, answer_at_small l.i c.loop-i-test.true) in e)
+    ]
 
 pub returns : goal.returns
-returns c = let l = c.loop-i in l.invariant.2 ∙ all_lines _ l.i l.invariant.1 (omega arith)
+returns c = let l = c.loop-i in all_lines l.out l.i l.invariant.0 (omega arith) l.invariant.1

@@ -1,13 +1,12 @@
-use mathlib.Core.Path.{refl, sym}
-use Rattle.model.specs.reference.Rules.{right_of, may_read, may_write, permits, ruling}
-use Rattle.permissions.specs.Places.{by_rules, agree}
+use Rattle.std.proofs.Common.{refl, sym, ap, ◌∙◌}
+use Rattle.permissions.specs.Sheet.{answer}
 use Rattle.permissions.proofs.Places.{past_answers}
+use Rattle.rulings.specs.declared.table.TheConstants.{TABLE}
+use Rattle.rulings.proofs.Laws.{found, table_agrees}
 use Rattle.rulings.proofs.answer_at.Goals as goal
 
--- the test over the whole table is computed here: all 384 places agree with the rules
-pub look_up-requires : goal.look_up-requires
-unfolding agree by_rules ruling permits right_of may_read may_write
-look_up-requires c = (refl, refl, c.if-place-lt-PLACES.true)
+pub returns-in_err-number : goal.returns-in_err-number
+returns-in_err-number c = rw c.from_residual.ensures (sym (past_answers _ c.in_err-number.ensures.lookup.3))
 
 pub returns : goal.returns
-returns c = sym (past_answers _ c.if-place-lt-PLACES.false)
+returns c = let at = c.in_ok-number.ensures in ap answer c.ruling_of.ensures ∙ found TABLE _ _ table_agrees refl at.lookup.0 at.lookup.1
