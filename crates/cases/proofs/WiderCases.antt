@@ -25,8 +25,8 @@ use Rattle.model.specs.declared.FirstLevel.{FirstLevel}
 use Rattle.model.specs.declared.FirstLevel.TheVariants.{Failing, Table, Section}
 use Rattle.model.specs.declared.Outcome.{Outcome}
 use Rattle.model.specs.declared.Outcome.TheVariants.{Mapped, Failed}
-use Rattle.model.specs.declared.Check.{Check}
-use Rattle.model.specs.declared.Check.TheVariants.{Pass, Refuse}
+use Rattle.model.specs.Types.{Check}
+use Rattle.std.specs.Prelude.{Ok, Err}
 use Rattle.model.proofs.CaseTools.{all_match, put, zeros, image_a, next, fault_code, refusal_code, answered, track_at, tables_at}
 use Rattle.cases.proofs.SplitCases.{split_and_joined}
 use Rattle.cases.proofs.GlobalCases.{given, given_with, global_entries}
@@ -435,8 +435,8 @@ refusals small =
 
 -- the first check that fails, as its refusal's number, or 0
 abbrev refusal : Check → ℕ
-refusal Pass = 0
-refusal (Refuse n) = refusal_number n
+refusal (Ok tt) = 0
+refusal (Err n) = refusal_number n
 
 -- what the checks say of an operation on m bytes of memory and t words of track; with each field of the domain register 1
 abbrev checked_with : ℕ → ℕ → ℕ → ℕ → ℕ → ℕ → Kind → ℕ → ℕ → ℕ → ℕ

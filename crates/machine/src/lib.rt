@@ -5,7 +5,7 @@ ghost use Rattle.std.specs.Prelude.{◌≡◌};
 ghost use Rattle.model.specs.step.Machine.{Gives, with_root, with_context, with_mode, with_domains, operate, stepped, started};
 
 use access::size_of;
-use model::{Answer, Check, Kind, OLD_WINDOW, Operation, Registers, Returned, Setting};
+use model::{Answer, Kind, OLD_WINDOW, Operation, Registers, Returned, Setting};
 use transfer::{carry, carry_flushed, fetch, read, write};
 
 // The registers with another root, another context, another mode, another domain register.
@@ -89,11 +89,11 @@ pub fn step(o: Operation, r: Registers, m: &mut [u8], t: &mut [u32]) -> Returned
     ensures { Gives (stepped o r m.old t.old) result m.new t.new }
 {
     match checks::check(o, r, m.len(), t.len()) {
-        Check::Refuse(n) => Returned {
+        Err(n) => Returned {
             answer: Answer::Refused(n),
             registers: r,
         },
-        Check::Pass => {
+        Ok(()) => {
             let kind = o.kind;
             carry_out(kind, o, r, m, t)
         }
@@ -105,7 +105,7 @@ pub fn start(m: &[u8], t: &mut [u32], setting: Setting) -> Returned
     ensures { Gives (started m.now t.old setting) result m.now t.new }
 {
     match checks::check_start(m.len(), t.len(), setting) {
-        Check::Refuse(n) => Returned {
+        Err(n) => Returned {
             answer: Answer::Refused(n),
             registers: Registers {
                 root: 0,
@@ -114,7 +114,7 @@ pub fn start(m: &[u8], t: &mut [u32], setting: Setting) -> Returned
                 domains: 0,
             },
         },
-        Check::Pass => {
+        Ok(()) => {
             track::flush_all(OLD_WINDOW, t);
             carry_flushed(
                 Answer::Done(0),

@@ -1,4 +1,5 @@
 -- The types of src/lib.rt and their constructors, under one roof.
+use Rattle.std.specs.Prelude.{Result}
 pub use Rattle.model.specs.declared.Registers.{Registers}
 pub use Rattle.model.specs.declared.Setting.{Setting}
 pub use Rattle.model.specs.declared.Kind.{Kind}
@@ -26,7 +27,9 @@ pub use Rattle.model.specs.declared.FirstLevel.TheVariants.{Failing, Table, Sect
 pub use Rattle.model.specs.declared.Tables.{Tables}
 pub use Rattle.model.specs.declared.Outcome.{Outcome}
 pub use Rattle.model.specs.declared.Outcome.TheVariants.{Mapped, Failed}
-pub use Rattle.model.specs.declared.Check.{Check}
-pub use Rattle.model.specs.declared.Check.TheVariants.{Pass, Refuse}
 pub use Rattle.model.specs.declared.Access.{Access}
 pub use Rattle.model.specs.declared.Access.TheVariants.{Stale, Fails, Physical}
+
+-- What checks come to: `Ok` where all pass, or the refusal of the first that fails.
+abbrev pub Check : Type 0
+Check = Result (Unit {0}) Refusal

@@ -167,13 +167,6 @@ pub enum Outcome {
     Failed(Fault),
 }
 
-// Whether the checks before an access let an operation pass.
-#[derive(Clone, Copy)]
-pub enum Check {
-    Pass,
-    Refuse(Refusal),
-}
-
 // What an access comes to: its page is stale, it faults, or its bytes lie at a physical address.
 #[derive(Clone, Copy)]
 pub enum Access {

@@ -14,7 +14,7 @@ ghost use Rattle.runs.specs.Step.{no_page, every_page, after_write, note_one_pag
 use access::{access_at, size_of};
 use machine::{carry_out, with_domains, with_mode};
 use model::{
-    Access, Answer, Check, Kind, OLD_WINDOW, Operation, Purpose, Refusal, Registers, Returned,
+    Access, Answer, Kind, OLD_WINDOW, Operation, Purpose, Refusal, Registers, Returned,
     Size, Tables,
 };
 use page_noting::note_page;
@@ -174,11 +174,11 @@ pub fn step(o: Operation, r: Registers, m: &mut [u8], t: &mut [u32]) -> Returned
     ensures { Gives (run_stepped o r m.old t.old) result m.new t.new }
 {
     match checks::check(o, r, m.len(), t.len()) {
-        Check::Refuse(n) => Returned {
+        Err(n) => Returned {
             answer: Answer::Refused(n),
             registers: r,
         },
-        Check::Pass => {
+        Ok(()) => {
             let kind = o.kind;
             operate(kind, o, r, m, t)
         }
