@@ -12,48 +12,29 @@ use transfer::{carry, carry_flushed, fetch, read, write};
 fn with_root(r: Registers, a: u32) -> Registers
     ensures { result ≡ with_root r a }
 {
-    Registers {
-        root: a,
-        context: r.context,
-        mode: r.mode,
-        domains: r.domains,
-    }
+    Registers { root: a, ..r }
 }
 
 fn with_context(r: Registers, a: u32) -> Registers
     ensures { result ≡ with_context r a }
 {
-    Registers {
-        root: r.root,
-        context: a,
-        mode: r.mode,
-        domains: r.domains,
-    }
+    Registers { context: a, ..r }
 }
 
 pub fn with_mode(r: Registers, a: u32) -> Registers
     ensures { result ≡ with_mode r a }
 {
-    Registers {
-        root: r.root,
-        context: r.context,
-        mode: a,
-        domains: r.domains,
-    }
+    Registers { mode: a, ..r }
 }
 
 pub fn with_domains(r: Registers, a: u32) -> Registers
     ensures { result ≡ with_domains r a }
 {
-    Registers {
-        root: r.root,
-        context: r.context,
-        mode: r.mode,
-        domains: a,
-    }
+    Registers { domains: a, ..r }
 }
 
 // An operation that has passed the checks.
+#[tactic(auto, unfolding(model::specs::step::Machine::operate))]
 pub fn carry_out(kind: Kind, o: Operation, r: Registers, m: &mut [u8], t: &mut [u32]) -> Returned
     ensures { Gives (operate kind o r m.old t.old) result m.new t.new }
 {
@@ -85,6 +66,7 @@ pub fn carry_out(kind: Kind, o: Operation, r: Registers, m: &mut [u8], t: &mut [
 }
 
 // One operation: its checks, its effect, and noting.
+#[tactic(auto, unfolding(model::specs::step::Machine::stepped))]
 pub fn step(o: Operation, r: Registers, m: &mut [u8], t: &mut [u32]) -> Returned
     ensures { Gives (stepped o r m.old t.old) result m.new t.new }
 {
@@ -93,14 +75,12 @@ pub fn step(o: Operation, r: Registers, m: &mut [u8], t: &mut [u32]) -> Returned
             answer: Answer::Refused(n),
             registers: r,
         },
-        Ok(()) => {
-            let kind = o.kind;
-            carry_out(kind, o, r, m, t)
-        }
+        Ok(()) => carry_out(o.kind, o, r, m, t),
     }
 }
 
 // A start: context 0, kernel mode, each field of the domain register 1, the track emptied and noted.
+#[tactic(auto, unfolding(model::specs::step::Machine::started))]
 pub fn start(m: &[u8], t: &mut [u32], setting: Setting) -> Returned
     ensures { Gives (started m.now t.old setting) result m.now t.new }
 {
