@@ -102,7 +102,7 @@ pub fn start(m: &[u8], t: &mut [u32], setting: Setting) -> Returned
                     root: setting.root,
                     context: 0,
                     mode: 0,
-                    domains: 1431655765, // 0x55555555
+                    domains: 0x55555555,
                 },
                 m,
                 t,
