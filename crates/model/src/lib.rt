@@ -124,13 +124,6 @@ pub enum Purpose {
     ToFetch,
 }
 
-// What reading a number in memory finds.
-#[derive(Clone, Copy)]
-pub enum Loaded {
-    Value(u32),
-    Outside,
-}
-
 // What an entry's domain, access permissions and XN bit say of an access.
 #[derive(Clone, Copy)]
 pub enum Ruling {
@@ -146,13 +139,15 @@ pub struct Pointer {
     pub domain: u32,
 }
 
-// What the level-one descriptor of a page says.
+// Where the level-one descriptor of a page leads, if it maps anything: to a level-two table, or to the entry of a section.
 #[derive(Clone, Copy)]
 pub enum FirstLevel {
-    Failing(Fault),
     Table(Pointer),
     Section(Entry),
 }
+
+// What level one says of a page.
+pub type FirstOutcome = Result<FirstLevel, Fault>;
 
 // What a walk needs to know of the tables beside memory: the address of the level-one table.
 #[derive(Clone, Copy)]
@@ -161,11 +156,7 @@ pub struct Tables {
 }
 
 // What the walk of a page finds.
-#[derive(Clone, Copy)]
-pub enum Outcome {
-    Mapped(Entry),
-    Failed(Fault),
-}
+pub type Outcome = Result<Entry, Fault>;
 
 // What an access comes to: its page is stale, it faults, or its bytes lie at a physical address.
 #[derive(Clone, Copy)]

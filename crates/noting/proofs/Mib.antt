@@ -8,29 +8,27 @@ use native.Mathlib.Nat.{add-zero}
 use lib.Dec.{eqb}
 use lib.ListN.{length, take}
 use borrow.Author.Tests.{le-leb, lt-leb}
+use Rattle.std.specs.Prelude.{Option, Some, None, Ok, Err}
 use Rattle.model.specs.declared.Size.TheVariants.{Four}
-use Rattle.model.specs.declared.Loaded.{Loaded}
-use Rattle.model.specs.declared.Loaded.TheVariants.{Value, Outside}
 use Rattle.model.specs.declared.Fault.TheVariants.{FirstUnmapped}
 use Rattle.model.specs.declared.Pointer.{Pointer}
-use Rattle.model.specs.declared.FirstLevel.{FirstLevel}
-use Rattle.model.specs.declared.FirstLevel.TheVariants.{Failing, Table, Section}
+use Rattle.model.specs.declared.FirstLevel.TheVariants.{Table, Section}
 use Rattle.model.specs.declared.Tables.{Tables}
-use Rattle.model.specs.declared.Outcome.TheVariants.{Mapped}
 use Rattle.model.specs.step.Memory.{number_at, within, load_at}
 use Rattle.model.specs.step.Rows.{map_first, map_words}
 use Rattle.model.specs.step.Walk.{kind_of, super_bit, pointer_of, section_entry, descriptor_at, first_of, first_from, first_at, second_of, second_from, second_at, walk_from, walk_page}
 use Rattle.model.specs.step.Track.{add_outcome, note_page}
 use Rattle.noting.specs.Mib.{mib_pages, note_table, note_mib}
 use Rattle.track.proofs.Rows.{same_words, from_start, rest_stays, part_length}
+use Rattle.model.specs.Types.{FirstOutcome}
 
 -- what a level-one word says of page i, by what it says of page 0
-abbrev pub again : FirstLevel → ℕ → ℕ → FirstLevel
-again (Failing f) x i = Failing f
-again (Table t) x i = Table t
-again (Section e) x i = Section (section_entry x i)
+abbrev pub again : FirstOutcome → ℕ → ℕ → FirstOutcome
+again (Err f) x i = Err f
+again (Ok (Table t)) x i = Ok (Table t)
+again (Ok (Section e)) x i = Ok (Section (section_entry x i))
 
-by_tests : (b c d : Bool) (t : Pointer) (x i : ℕ) → cond b (Table t) (cond c (cond d (Section (section_entry x i)) (Failing FirstUnmapped)) (Failing FirstUnmapped)) ≡ again (cond b (Table t) (cond c (cond d (Section (section_entry x 0)) (Failing FirstUnmapped)) (Failing FirstUnmapped))) x i
+by_tests : (b c d : Bool) (t : Pointer) (x i : ℕ) → cond b (Ok (Table t)) (cond c (cond d (Ok (Section (section_entry x i))) (Err FirstUnmapped)) (Err FirstUnmapped)) ≡ again (cond b (Ok (Table t)) (cond c (cond d (Ok (Section (section_entry x 0))) (Err FirstUnmapped)) (Err FirstUnmapped))) x i
 by_tests true c d t x i = refl
 by_tests false true true t x i = refl
 by_tests false true false t x i = refl
@@ -49,9 +47,9 @@ module _ (p q : ℕ) (e : p % mib_pages ≡ q % mib_pages) where
   unfolding second_of
   second_same x d = rw in_large
 
-  second_from_lem : (x : Loaded) (d : ℕ) → second_from x p d ≡ second_from x q d
-  second_from_lem (Value x) d = second_same x d
-  second_from_lem Outside d = refl
+  second_from_lem : (x : Option ℕ) (d : ℕ) → second_from x p d ≡ second_from x q d
+  second_from_lem (Some x) d = second_same x d
+  second_from_lem None d = refl
 
   table_same : (m : List ℕ) (t : Pointer) → second_at m t p ≡ second_at m t q
   unfolding second_at
@@ -61,18 +59,18 @@ module _ (p q : ℕ) (e : p % mib_pages ≡ q % mib_pages) where
   section_same : (x : ℕ) → section_entry x p ≡ section_entry x q
   section_same x = rw e
 
-  again_same : (m : List ℕ) (y : FirstLevel) (x : ℕ) → walk_from (again y x p) m p ≡ walk_from (again y x q) m q
-  again_same m (Failing f) x = refl
-  again_same m (Table t) x = table_same m t
-  again_same m (Section s) x = ap Mapped (section_same x)
+  again_same : (m : List ℕ) (y : FirstOutcome) (x : ℕ) → walk_from (again y x p) m p ≡ walk_from (again y x q) m q
+  again_same m (Err f) x = refl
+  again_same m (Ok (Table t)) x = table_same m t
+  again_same m (Ok (Section s)) x = ap Ok (section_same x)
 
   first_same : (m : List ℕ) (x : ℕ) → walk_from (first_of x p) m p ≡ walk_from (first_of x q) m q
   first_same m x =
-      ap (λ (y : FirstLevel). walk_from y m p) (first_again x p) ∙ again_same m (first_of x 0) x ∙ sym (ap (λ (y : FirstLevel). walk_from y m q) (first_again x q))
+      ap (λ (y : FirstOutcome). walk_from y m p) (first_again x p) ∙ again_same m (first_of x 0) x ∙ sym (ap (λ (y : FirstOutcome). walk_from y m q) (first_again x q))
 
-  walk_same : (m : List ℕ) (x : Loaded) → walk_from (first_from x p) m p ≡ walk_from (first_from x q) m q
-  walk_same m (Value x) = first_same m x
-  walk_same m Outside = refl
+  walk_same : (m : List ℕ) (x : Option ℕ) → walk_from (first_from x p) m p ≡ walk_from (first_from x q) m q
+  walk_same m (Some x) = first_same m x
+  walk_same m None = refl
 
 -- page i of a MiB, by the level-one descriptor of that MiB
 one_page_lem : (m : List ℕ) (tables : Tables) (g page i w : ℕ) → page % mib_pages ≡ 0 → i < mib_pages → note_page m tables g (page + i) w ≡ note_mib m (tables.root + 4 * (page / mib_pages)) g i w
@@ -89,18 +87,18 @@ by_mib m tables g page k rest z n =
     ap (λ (s : ℕ). map_first (note_page m tables g) s (length l) l) (sym (add-zero page)) ∙ from_start (note_page m tables g) page 0 (length l) l ∙ same_words (λ (i : ℕ). note_page m tables g (page + i)) (note_mib m (tables.root + 4 * (page / mib_pages)) g) 0 (length l) l (λ (i : ℕ) a (w : ℕ). one_page_lem m tables g page i w z (omega (arith, a, n, part_length k rest)))
 
 -- a word after noting page i of a MiB whose level-one word x says y of page 0
-abbrev pub note_first : List ℕ → FirstLevel → ℕ → ℕ → ℕ → ℕ → ℕ
+abbrev pub note_first : List ℕ → FirstOutcome → ℕ → ℕ → ℕ → ℕ → ℕ
 note_first m y x g i w = add_outcome g w (walk_from (again y x i) m i)
 
 -- the pages of a level-one descriptor that was read
-pub by_first : (m : List ℕ) (at g : ℕ) (l : List ℕ) (x : ℕ) (y : FirstLevel) → Value x ≡ load_at Four m at → y ≡ first_of x 0 → map_words (note_first m y x g) l ≡ map_words (note_mib m at g) l
+pub by_first : (m : List ℕ) (at g : ℕ) (l : List ℕ) (x : ℕ) (y : FirstOutcome) → Some x ≡ load_at Four m at → y ≡ first_of x 0 → map_words (note_first m y x g) l ≡ map_words (note_mib m at g) l
 by_first m at g l x y h e =
-    same_words (note_first m y x g) (note_mib m at g) 0 (length l) l (λ (i : ℕ) a (w : ℕ). ap (λ (v : FirstLevel). add_outcome g w (walk_from (again v x i) m i)) e ∙ ap (λ (v : FirstLevel). add_outcome g w (walk_from v m i)) (sym (first_again x i)) ∙ ap (λ (v : Loaded). add_outcome g w (walk_from (first_from v i) m i)) h)
+    same_words (note_first m y x g) (note_mib m at g) 0 (length l) l (λ (i : ℕ) a (w : ℕ). ap (λ (v : FirstOutcome). add_outcome g w (walk_from (again v x i) m i)) e ∙ ap (λ (v : FirstOutcome). add_outcome g w (walk_from v m i)) (sym (first_again x i)) ∙ ap (λ (v : Option ℕ). add_outcome g w (walk_from (first_from v i) m i)) h)
 
 -- the pages of a level-one descriptor that lies outside memory stay as they are
-pub by_none : (m : List ℕ) (at g : ℕ) (l : List ℕ) → Outside ≡ load_at Four m at → l ≡ map_words (note_mib m at g) l
+pub by_none : (m : List ℕ) (at g : ℕ) (l : List ℕ) → None ≡ load_at Four m at → l ≡ map_words (note_mib m at g) l
 by_none m at g l h =
-    rest_stays (note_mib m at g) 0 0 l (λ (i : ℕ) a b (w : ℕ). ap (λ (v : Loaded). add_outcome g w (walk_from (first_from v i) m i)) h)
+    rest_stays (note_mib m at g) 0 0 l (λ (i : ℕ) a b (w : ℕ). ap (λ (v : Option ℕ). add_outcome g w (walk_from (first_from v i) m i)) h)
 
 -- and so do those of a level-one descriptor that maps nothing
 pub no_change : (l : List ℕ) → l ≡ map_words (λ (i w : ℕ). w) l

@@ -6,16 +6,16 @@ use mathlib.Core.List.{List}
 use lib.Dec.{eqb}
 use lib.ListN.{length, get_or}
 use borrow.Author.Tests.{eqb-true}
+use Rattle.std.specs.Prelude.{Ok}
 use Rattle.model.specs.declared.Entry.{Entry}
-use Rattle.model.specs.declared.Outcome.{Outcome}
-use Rattle.model.specs.declared.Outcome.TheVariants.{Mapped}
 use Rattle.model.specs.step.Rows.{map_first}
 use Rattle.model.specs.step.Track.{entry_word, add_entry, add_outcome}
 use Rattle.noting.specs.Mib.{word_for, Stays, Both}
 use Rattle.track.proofs.Rows.{still_turn}
+use Rattle.model.specs.Types.{Outcome}
 
 -- the words of a page whose entry its own row keeps as it is
-pub both_stay : (own shared : ℕ) (e : Entry) (w v : ℕ) → w ≡ word_for e.global own shared → v ≡ add_entry e.global w (entry_word e) → v ≡ w → Stays own shared (Mapped e)
+pub both_stay : (own shared : ℕ) (e : Entry) (w v : ℕ) → w ≡ word_for e.global own shared → v ≡ add_entry e.global w (entry_word e) → v ≡ w → Stays own shared (Ok e)
 both_stay own shared e w v p q r = record { in_own = in_own_lem (eqb e.global 0) refl; in_shared = in_shared_lem (eqb e.global 1) refl }
   where
     kept : (g : ℕ) → e.global ≡ g → add_entry g (word_for g own shared) (entry_word e) ≡ word_for g own shared

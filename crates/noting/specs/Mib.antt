@@ -1,11 +1,10 @@
 -- Noting the pages of a MiB, which share one level-one descriptor.
-use Rattle.std.specs.Prelude.{ℕ, ◌≡◌, cond, List, eqb}
+use Rattle.std.specs.Prelude.{ℕ, ◌≡◌, cond, List, eqb, Ok}
 use Rattle.model.specs.step.Rows.{map_words}
 use Rattle.model.specs.step.Walk.{section_entry, descriptor_at, first_from, second_at, walk_from}
 use Rattle.model.specs.step.Track.{add_outcome}
 use Rattle.model.specs.declared.Pointer.{Pointer}
-use Rattle.model.specs.declared.Outcome.{Outcome}
-use Rattle.model.specs.declared.Outcome.TheVariants.{Mapped}
+use Rattle.model.specs.Types.{Outcome}
 
 -- how many pages a MiB has
 abbrev pub mib_pages : ℕ
@@ -15,7 +14,7 @@ mib_pages = 256
 
 -- a word after noting page i of the section that word x makes
 abbrev pub note_section : ℕ → ℕ → ℕ → ℕ → ℕ
-note_section x g i w = add_outcome g w (Mapped (section_entry x i))
+note_section x g i w = add_outcome g w (Ok (section_entry x i))
 
 -- a word after noting page i of a table
 abbrev pub note_table : List ℕ → Pointer → ℕ → ℕ → ℕ → ℕ

@@ -14,7 +14,7 @@ ghost use Rattle.noting.specs.Mib.{mib_pages, note_section, note_table, note_mib
 use descriptor::{first_of, second_of, section_entry};
 use limits::{last_row, row_size, row_start, rows};
 use memory::{load, number};
-use model::{FirstLevel, Loaded, Outcome, Pointer, Size, Tables};
+use model::{FirstLevel, Outcome, Pointer, Size, Tables};
 use track::add_entry;
 
 // How many pages a MiB has: mib_pages.
@@ -25,13 +25,13 @@ pub fn add_outcome(global: u32, w: u32, o: Outcome) -> u32
     ensures { result ≡ add_outcome global w o }
 {
     match o {
-        Outcome::Mapped(e) => {
+        Ok(e) => {
             if e.global == global {
                 return add_entry(global, w, walk::entry_word(e));
             }
             w
         }
-        Outcome::Failed(_) => w,
+        Err(_) => w,
     }
 }
 
@@ -42,7 +42,7 @@ fn note_section(x: u32, global: u32, mib: &mut [u32])
     let mut i = 0;
     while i < mib.len() {
         let w = mib[i];
-        mib[i] = add_outcome(global, w, Outcome::Mapped(section_entry(x, i)));
+        mib[i] = add_outcome(global, w, Ok(section_entry(x, i)));
         i += 1;
     }
 }
@@ -89,11 +89,11 @@ fn note_mib(m: &[u8], at: usize, global: u32, mib: &mut [u32])
     requires { length mib.old ≤ mib_pages }
     ensures { mib.new ≡ map_words (note_mib m.now at global) mib.old }
 {
-    if let Loaded::Value(x) = load(m, at, Size::Four) {
+    if let Some(x) = load(m, at, Size::Four) {
         match first_of(x, 0) {
-            FirstLevel::Failing(_) => {}
-            FirstLevel::Section(_) => note_section(x, global, mib),
-            FirstLevel::Table(table) => note_table(m, table, global, mib),
+            Err(_) => {}
+            Ok(FirstLevel::Section(_)) => note_section(x, global, mib),
+            Ok(FirstLevel::Table(table)) => note_table(m, table, global, mib),
         }
     }
 }
@@ -151,7 +151,7 @@ fn changes(own: u32, shared: u32, o: Outcome) -> u32
     ensures { (result ≤ 1) × (result ≡ 0 → Stays own shared o) }
 {
     match o {
-        Outcome::Mapped(e) => {
+        Ok(e) => {
             let w = word_for(e.global, own, shared);
             let v = add_entry(e.global, w, walk::entry_word(e));
             if v == w {
@@ -159,7 +159,7 @@ fn changes(own: u32, shared: u32, o: Outcome) -> u32
             }
             1
         }
-        Outcome::Failed(_) => 0,
+        Err(_) => 0,
     }
 }
 
@@ -171,7 +171,7 @@ fn changes_by_section(x: u32, own: &[u32], shared: &[u32]) -> u32
     let mut count = 0;
     let mut i = 0;
     while i < own.len() {
-        count += changes(own[i], shared[i], Outcome::Mapped(section_entry(x, i)));
+        count += changes(own[i], shared[i], Ok(section_entry(x, i)));
         i += 1;
     }
     count
@@ -202,11 +202,11 @@ fn changes_of_mib(m: &[u8], at: usize, own: &[u32], shared: &[u32]) -> u32
     requires { (length own.now ≤ mib_pages) × (length shared.now ≡ length own.now) }
     ensures { result ≡ 0 → Both (note_mib m.now at) own.now shared.now }
 {
-    if let Loaded::Value(x) = load(m, at, Size::Four) {
+    if let Some(x) = load(m, at, Size::Four) {
         return match first_of(x, 0) {
-            FirstLevel::Failing(_) => 0,
-            FirstLevel::Section(_) => changes_by_section(x, own, shared),
-            FirstLevel::Table(table) => changes_by_table(m, table, own, shared),
+            Err(_) => 0,
+            Ok(FirstLevel::Section(_)) => changes_by_section(x, own, shared),
+            Ok(FirstLevel::Table(table)) => changes_by_table(m, table, own, shared),
         };
     }
     0

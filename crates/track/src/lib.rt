@@ -139,7 +139,7 @@ pub fn is_stale(global: u32, w: u32, o: Outcome) -> bool
         return false;
     }
     match o {
-        Outcome::Mapped(e) => {
+        Ok(e) => {
             if e.global == global {
                 let v = walk::entry_word(e);
                 if w == v {
@@ -149,7 +149,7 @@ pub fn is_stale(global: u32, w: u32, o: Outcome) -> bool
             }
             true
         }
-        Outcome::Failed(_) => true,
+        Err(_) => true,
     }
 }
 

@@ -12,7 +12,7 @@ use descriptor::{first_of, second_of};
 use limits::{in_window, memory_fits, root_fits};
 use memory::load;
 use model::{
-    Entry, Fault, FirstLevel, Loaded, OLD_SPLIT, OLD_WINDOW, Outcome, Pointer, Size, Tables,
+    Entry, Fault, FirstLevel, FirstOutcome, OLD_SPLIT, OLD_WINDOW, Outcome, Pointer, Size, Tables,
 };
 
 // The short-descriptor status code of a fault.
@@ -34,14 +34,12 @@ pub fn fault_number(f: Fault) -> u32
 }
 
 // What level one says of a page.
-pub fn level_one(m: &[u8], tables: Tables, page: usize) -> FirstLevel
+pub fn level_one(m: &[u8], tables: Tables, page: usize) -> FirstOutcome
     ensures { Tells first_fault (first_at m.now tables page) result }
 {
     let at = tables.root as usize + 4 * (page / 256);
-    match load(m, at, Size::Four) {
-        Loaded::Value(w) => first_of(w, page),
-        Loaded::Outside => FirstLevel::Failing(Fault::FirstOutside),
-    }
+    let w = load(m, at, Size::Four).ok_or(Fault::FirstOutside)?;
+    first_of(w, page)
 }
 
 // What a table says of a page.
@@ -49,19 +47,16 @@ pub fn level_two(m: &[u8], table: Pointer, page: usize) -> Outcome
     ensures { Tells outcome_number (second_at m.now table page) result }
 {
     let at = table.base as usize + 4 * (page % 256);
-    match load(m, at, Size::Four) {
-        Loaded::Value(w) => second_of(w, page, table.domain),
-        Loaded::Outside => Outcome::Failed(Fault::SecondOutside),
-    }
+    let w = load(m, at, Size::Four).ok_or(Fault::SecondOutside)?;
+    second_of(w, page, table.domain)
 }
 
 // The walk of a page.
 pub fn walk(m: &[u8], tables: Tables, page: usize) -> Outcome
     ensures { Tells outcome_number (walk_page m.now tables page) result }
 {
-    match level_one(m, tables, page) {
-        FirstLevel::Failing(f) => Outcome::Failed(f),
-        FirstLevel::Section(e) => Outcome::Mapped(e),
+    match level_one(m, tables, page)? {
+        FirstLevel::Section(e) => Ok(e),
         FirstLevel::Table(table) => level_two(m, table, page),
     }
 }
@@ -84,8 +79,8 @@ fn outcome_number(o: Outcome) -> u64
     ensures { result ≡ outcome_number o }
 {
     match o {
-        Outcome::Mapped(e) => entry_word(e) as u64,
-        Outcome::Failed(f) => 4294967296 + fault_number(f) as u64,
+        Ok(e) => entry_word(e) as u64,
+        Err(f) => 4294967296 + fault_number(f) as u64,
     }
 }
 

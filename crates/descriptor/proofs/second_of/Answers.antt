@@ -1,19 +1,20 @@
-use borrow.Author.Tests.{eq-eqb, ne_eqb}
+use borrow.Author.Tests.{ne_eqb}
+use native.Mathlib.Omega.{arith}
 use mathlib.Core.Path.{ap}
-use Rattle.model.specs.step.Walk.{second_of}
-use Rattle.model.specs.declared.Outcome.TheVariants.{Mapped}
+use Rattle.std.specs.Prelude.{Ok}
+use Rattle.model.specs.step.Walk.{kind_of, second_of}
 use Rattle.model.proofs.Tellings.{tells}
 use Rattle.model.specs.step.WalkAnswer.{outcome_number}
 use Rattle.descriptor.proofs.second_of.Goals as goal
 
-pub returns-then-kind-eq0 : goal.returns-then-kind-eq0
+pub returns-in-0 : goal.returns-in-0
 unfolding second_of
-returns-then-kind-eq0 c = tells outcome_number (simp (eq-eqb _ _ c.if-kind-eq0.true))
+returns-in-0 c = tells outcome_number (simp c.in-0.is)
 
-pub returns-then-kind-eq1 : goal.returns-then-kind-eq1
+pub returns-in-1 : goal.returns-in-1
 unfolding second_of
-returns-then-kind-eq1 c = tells outcome_number (simp (ne_eqb _ _ c.if-kind-eq0.false, eq-eqb _ _ c.if-kind-eq1.true) (ap Mapped c.large_entry.ensures))
+returns-in-1 c = tells outcome_number (simp c.in-1.is (ap Ok c.large_entry.ensures))
 
-pub returns : goal.returns
+pub returns-in_default : goal.returns-in_default
 unfolding second_of
-returns c = tells outcome_number (simp (ne_eqb _ _ c.if-kind-eq0.false, ne_eqb _ _ c.if-kind-eq1.false) (ap Mapped c.small_entry.ensures))
+returns-in_default c = tells outcome_number (simp (ne_eqb (kind_of c.args.w) 0 (λ h. omega (arith, h)), ne_eqb (kind_of c.args.w) 1 (λ h. omega (arith, h))) (ap Ok c.small_entry.ensures))

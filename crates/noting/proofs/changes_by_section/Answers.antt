@@ -3,8 +3,8 @@ use lib.ListN.{length, get_or}
 use native.Mathlib.Nat.{le_antisymm}
 use native.Mathlib.Omega.{arith}
 use mathlib.Core.Path.{◌≡◌, refl, sym, ◌∙◌, subst}
+use Rattle.std.specs.Prelude.{Ok}
 use Rattle.model.specs.declared.Entry.{Entry}
-use Rattle.model.specs.declared.Outcome.TheVariants.{Mapped}
 use Rattle.model.specs.step.Walk.{section_entry}
 use Rattle.noting.specs.Mib.{note_section, Stays}
 use Rattle.noting.proofs.Settled.{through_none, through_turn, through_all}
@@ -19,9 +19,9 @@ loop-i-preserved c = let a = c.args in let i = c.loop-i.i in (
   omega arith,
   (
     omega arith,
-    λ h. through_turn (note_section a.x) i a.own.now a.shared.now (Mapped (section_entry a.x i)) (λ (g w : ℕ). refl)
+    λ h. through_turn (note_section a.x) i a.own.now a.shared.now (Ok (section_entry a.x i)) (λ (g w : ℕ). refl)
         (c.loop-i.invariant.1.1 (omega (arith, h))) (omega arith) (omega (arith, c.requires.1))
-        (subst (λ (e : Entry). Stays (get_or a.own.now i 0) (get_or a.shared.now i 0) (Mapped e)) c.section_entry.ensures (c.changes-count.ensures.1 (omega (arith, h)))),
+        (subst (λ (e : Entry). Stays (get_or a.own.now i 0) (get_or a.shared.now i 0) (Ok e)) c.section_entry.ensures (c.changes-count.ensures.1 (omega (arith, h)))),
   ),
 )
 

@@ -2,11 +2,11 @@ use Prim.Native.Nat.{ℕ, ◌+◌, ◌*◌, ◌≤◌, ◌<◌, zero-le}
 use lib.ListN.{length, get_or}
 use native.Mathlib.Omega.{arith}
 use mathlib.Core.Path.{refl, ◌∙◌, subst}
-use Rattle.model.specs.declared.Outcome.{Outcome}
 use Rattle.model.specs.step.Walk.{second_at}
 use Rattle.noting.specs.Mib.{note_table, Stays}
 use Rattle.noting.proofs.Mib.{table_word, by_table}
 use Rattle.noting.proofs.Settled.{through_none, through_turn}
+use Rattle.model.specs.Types.{Outcome}
 use Rattle.noting.proofs.changes_by_table.Goals as goal
 
 pub loop-i-init : goal.loop-i-init

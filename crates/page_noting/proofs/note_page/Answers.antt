@@ -5,8 +5,8 @@ use lib.ListN.{length}
 use Rattle.model.specs.Limits.{row_size}
 use Rattle.model.specs.step.Rows.{in_row}
 use Rattle.model.specs.step.Track.{last_row}
-use Rattle.model.specs.declared.Outcome.{Outcome}
 use Rattle.runs.specs.Step.{note_found, note_one_page}
+use Rattle.model.specs.Types.{Outcome}
 use Rattle.page_noting.proofs.note_page.Goals as goal
 
 pub returns : goal.returns
