@@ -11,45 +11,37 @@ ghost use Rattle.model.specs.step.Machine.{size_of, permission_fault_of, domain_
 use model::{Access, Entry, Fault, OLD_WINDOW, Outcome, Purpose, Registers, Ruling, Size, Tables};
 
 // The field of a domain in a domain register.
+#[tactic(auto, using(crate::proofs::Laws::field_shifted, crate::proofs::Laws::field_beyond))]
 pub fn field_of(domains: u32, domain: u32) -> u32
     ensures { result ≡ field_at domains domain }
 {
-    let mut left = domains;
-    let mut i = 0;
-    while i < domain {
-        if left == 0 {
-            return 0;
-        }
-        left = left / 4;
-        i += 1;
+    if domain < 16 {
+        (domains >> (2 * domain)) & 3
+    } else {
+        0
     }
-    left % 4
 }
 
 // The size that a field names, where it names one.
 pub fn size_of(b: u32) -> Size
     ensures { Tells bytes_of (size_of b) result }
 {
-    if b == 1 {
-        return Size::One;
+    match b {
+        1 => Size::One,
+        2 => Size::Two,
+        _ => Size::Four,
     }
-    if b == 2 {
-        return Size::Two;
-    }
-    Size::Four
 }
 
 // The first fault where a section gave this entry, the second where a page did.
 fn by_level(e: Entry, section: Fault, page: Fault) -> Fault
     ensures { result ≡ cond (eqb e.section 1) section page }
 {
-    if e.section == 1 {
-        return section;
-    }
-    page
+    if e.section == 1 { section } else { page }
 }
 
 // The permission fault of an access through this entry.
+#[tactic(auto, unfolding(model::specs::step::Machine::permission_fault_of))]
 pub fn permission_fault(e: Entry) -> Fault
     ensures { Tells fault_number (permission_fault_of e) result }
 {
@@ -57,6 +49,7 @@ pub fn permission_fault(e: Entry) -> Fault
 }
 
 // The domain fault of an access through this entry.
+#[tactic(auto, unfolding(model::specs::step::Machine::domain_fault_of))]
 pub fn domain_fault(e: Entry) -> Fault
     ensures { Tells fault_number (domain_fault_of e) result }
 {
@@ -68,18 +61,11 @@ pub fn reach(x: Ruling, e: Entry, size: Size, a: u32, m: &[u8]) -> Access
     ensures { Tells access_result (reached x e size a m.now) result }
 {
     let at = e.frame as usize * 4096 + a as usize % 4096; // page_size
-    let found = memory::inside(m, at, size);
-    let denied = permission_fault(e);
-    let closed = domain_fault(e);
     match x {
-        Ruling::DomainDenied => Access::Fails(closed),
-        Ruling::PermissionDenied => Access::Fails(denied),
-        Ruling::Allowed => {
-            if found {
-                return Access::Physical(at);
-            }
-            Access::Fails(Fault::AccessOutside)
-        }
+        Ruling::DomainDenied => Access::Fails(domain_fault(e)),
+        Ruling::PermissionDenied => Access::Fails(permission_fault(e)),
+        Ruling::Allowed if memory::inside(m, at, size) => Access::Physical(at),
+        Ruling::Allowed => Access::Fails(Fault::AccessOutside),
     }
 }
 
@@ -98,6 +84,7 @@ pub fn grant(o: Outcome, r: Registers, purpose: Purpose, size: Size, a: u32, m: 
 }
 
 // An access to a page with this outcome, which is stale or not.
+#[tactic(auto, unfolding(model::specs::step::Machine::decided))]
 pub fn decide(
     o: Outcome,
     stale: bool,
@@ -109,18 +96,17 @@ pub fn decide(
 ) -> Access
     ensures { Tells access_result (decided o stale r purpose size a m.now) result }
 {
-    let n = memory::bytes(size);
-    let rest = a as usize % n;
-    if rest == 0 {
-        if stale {
-            return Access::Stale;
-        }
-        return grant(o, r, purpose, size, a, m);
+    if a as usize % memory::bytes(size) != 0 {
+        Access::Fails(Fault::Alignment)
+    } else if stale {
+        Access::Stale
+    } else {
+        grant(o, r, purpose, size, a, m)
     }
-    Access::Fails(Fault::Alignment)
 }
 
 // What an access comes to.
+#[tactic(auto, unfolding(model::specs::step::Machine::access_at))]
 pub fn access_at(r: Registers, m: &[u8], t: &[u32], purpose: Purpose, size: Size, a: u32) -> Access
     ensures { Tells access_result (access_at r m.now t.now purpose size a) result }
 {

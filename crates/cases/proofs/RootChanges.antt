@@ -14,8 +14,8 @@ use Rattle.model.specs.declared.Kind.{Kind}
 use Rattle.model.specs.declared.Kind.TheVariants.{Read, Write, Root, Asid, Mode, All, Addr, Ctx, AddrCtx, Fetch, Domain}
 use Rattle.model.specs.declared.Size.TheVariants.{Four}
 use Rattle.model.specs.declared.Purpose.TheVariants.{ToRead, ToWrite, ToFetch}
-use Rattle.model.specs.declared.Check.{Check}
-use Rattle.model.specs.declared.Check.TheVariants.{Pass, Refuse}
+use Rattle.model.specs.Types.{Check}
+use Rattle.std.specs.Prelude.{Ok, Err}
 use Rattle.model.proofs.Calls.{Hold, passed, checks_of, read_context, write_context}
 
 root_of : Registers → ℕ
@@ -38,7 +38,7 @@ root_left Fetch o r m t p n = ap root_of (read_context (access_at r m t ToFetch 
 root_left Domain o r m t p n = refl
 
 -- an operation that has passed the checks has passed the one on root changes
-change_passed : (x : Call) → first_failing (checks_of x) ≡ Pass → root_may_change x.operation.kind x.registers.context ≡ true
+change_passed : (x : Call) → first_failing (checks_of x) ≡ Ok tt → root_may_change x.operation.kind x.registers.context ≡ true
 unfolding Hold checks
 change_passed x p = (passed (checks_of x) p).1.1.1.1.1.1.1.1.1.1.0
 
@@ -47,8 +47,8 @@ unfolding stepped
 kept x n = go (first_failing (checks_of x)) refl
   where
     go : (y : Check) → first_failing (checks_of x) ≡ y → (after_checks y x.operation x.registers x.memory x.track).registers.root ≡ x.registers.root
-    go (Refuse r) e = refl
-    go Pass e = root_left x.operation.kind x.operation x.registers x.memory x.track (change_passed x e) n
+    go (Err r) e = refl
+    go (Ok tt) e = root_left x.operation.kind x.operation x.registers x.memory x.track (change_passed x e) n
 
 pub root_changes : RootChanges
 root_changes = record { kept = kept }

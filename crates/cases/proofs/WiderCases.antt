@@ -23,13 +23,11 @@ use Rattle.model.specs.declared.Fault.TheVariants.{SecondUnmapped, FirstOutside}
 use Rattle.model.specs.declared.Size.TheVariants.{Four}
 use Rattle.model.specs.declared.Purpose.TheVariants.{ToRead, ToWrite, ToFetch}
 use Rattle.model.specs.declared.FirstLevel.TheVariants.{Table, Section}
-use Rattle.model.specs.declared.Check.{Check}
-use Rattle.model.specs.declared.Check.TheVariants.{Pass, Refuse}
 use Rattle.model.proofs.CaseTools.{all_match, put, zeros, image_a, next, fault_code, refusal_code, answered, track_at, tables_at}
 use Rattle.cases.proofs.SplitCases.{split_and_joined}
 use Rattle.cases.proofs.GlobalCases.{given, given_with, global_entries}
 use Rattle.cases.proofs.FetchCases.{fetches}
-use Rattle.model.specs.Types.{FirstOutcome, Outcome}
+use Rattle.model.specs.Types.{FirstOutcome, Outcome, Check}
 
 -- 1 where it holds, 0 where not
 abbrev bit : Bool → ℕ
@@ -434,8 +432,8 @@ refusals small =
 
 -- the first check that fails, as its refusal's number, or 0
 abbrev refusal : Check → ℕ
-refusal Pass = 0
-refusal (Refuse n) = refusal_number n
+refusal (Ok tt) = 0
+refusal (Err n) = refusal_number n
 
 -- what the checks say of an operation on m bytes of memory and t words of track; with each field of the domain register 1
 abbrev checked_with : ℕ → ℕ → ℕ → ℕ → ℕ → ℕ → Kind → ℕ → ℕ → ℕ → ℕ

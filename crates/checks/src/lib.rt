@@ -1,15 +1,14 @@
 // The checks that stand before an access, one function to each, and the numbers of refusals.
 #![tactic(auto)]
 
-ghost use Rattle.std.specs.Prelude.{◌≡◌, [], ◌∷◌, ◌<◌};
+ghost use Rattle.std.specs.Prelude.{◌≡◌, cond, ◌<◌, Ok, Err};
 ghost use Rattle.model.specs.Numbers.{refusal_number};
-ghost use Rattle.model.specs.declared.Refusal.TheVariants.{WrongRoot, WrongContext, WrongMode, WrongDomains, UserMode, NotContext0};
 ghost use Rattle.model.specs.step.Checks.{size_fits, address_fits, value_fits, new_root_fits, context_fits, mode_fits, new_domains_fit, may_ask, root_may_change, checks, start_checks, first_failing, Says};
 
 use limits::{
     domains_fit, fits_size, in_window, is_size, last_row, lengths_fit, registers_fit, root_fits,
 };
-use model::{Check, Kind, OLD_SPLIT, OLD_WINDOW, Operation, Refusal, Registers, Setting};
+use model::{Kind, OLD_SPLIT, OLD_WINDOW, Operation, Refusal, Registers, Setting};
 
 // Whether the size of a read or a write is one.
 #[tactic(auto, unfolding(model::specs::step::Checks::size_fits))]
@@ -17,8 +16,7 @@ pub fn size_fits(kind: Kind, b: u32) -> bool
     ensures { result ≡ size_fits kind b }
 {
     match kind {
-        Kind::Read => is_size(b),
-        Kind::Write => is_size(b),
+        Kind::Read | Kind::Write => is_size(b),
         _ => true,
     }
 }
@@ -28,13 +26,8 @@ pub fn size_fits(kind: Kind, b: u32) -> bool
 pub fn address_fits(window: u32, kind: Kind, a: u32) -> bool
     ensures { result ≡ address_fits window kind a }
 {
-    let inside = in_window(window, a);
     match kind {
-        Kind::Read => inside,
-        Kind::Write => inside,
-        Kind::Addr => inside,
-        Kind::AddrCtx => inside,
-        Kind::Fetch => inside,
+        Kind::Read | Kind::Write | Kind::Addr | Kind::AddrCtx | Kind::Fetch => in_window(window, a),
         _ => true,
     }
 }
@@ -67,8 +60,7 @@ pub fn context_fits(kind: Kind, a: u32, b: u32, k: usize) -> bool
     ensures { result ≡ context_fits kind a b k }
 {
     match kind {
-        Kind::Asid => (a as usize) < k,
-        Kind::Ctx => (a as usize) < k,
+        Kind::Asid | Kind::Ctx => (a as usize) < k,
         Kind::AddrCtx => (b as usize) < k,
         _ => true,
     }
@@ -102,10 +94,7 @@ pub fn may_ask(kind: Kind, mode: u32) -> bool
     ensures { result ≡ may_ask kind mode }
 {
     match kind {
-        Kind::Read => true,
-        Kind::Write => true,
-        Kind::Mode => true,
-        Kind::Fetch => true,
+        Kind::Read | Kind::Write | Kind::Mode | Kind::Fetch => true,
         _ => mode == 0,
     }
 }
@@ -121,87 +110,43 @@ pub fn root_may_change(kind: Kind, context: u32) -> bool
     }
 }
 
-// The first that fails of the checks from that of a new root on.
-#[tactic(auto, unfolding(model::specs::step::Checks::first_failing))]
-fn check_new_values(
-    root: bool,
-    context: bool,
-    mode: bool,
-    domains: bool,
-    asked: bool,
-    changes: bool,
-) -> Check
-    ensures { Says (first_failing ((root, WrongRoot) ∷ (context, WrongContext) ∷ (mode, WrongMode) ∷ (domains, WrongDomains) ∷ (asked, UserMode) ∷ (changes, NotContext0) ∷ [])) result }
+// One check: where it does not pass, this is why.
+fn test(passes: bool, why: Refusal) -> Result<(), Refusal>
+    ensures { result ≡ cond passes (Ok tt) (Err why) }
 {
-    if !root {
-        return Check::Refuse(Refusal::WrongRoot);
-    }
-    if !context {
-        return Check::Refuse(Refusal::WrongContext);
-    }
-    if !mode {
-        return Check::Refuse(Refusal::WrongMode);
-    }
-    if !domains {
-        return Check::Refuse(Refusal::WrongDomains);
-    }
-    if !asked {
-        return Check::Refuse(Refusal::UserMode);
-    }
-    if !changes {
-        return Check::Refuse(Refusal::NotContext0);
-    }
-    Check::Pass
+    if passes { Ok(()) } else { Err(why) }
 }
 
 // The first check that an operation fails, on a memory of m bytes and a track of t words.
 #[tactic(auto, unfolding(model::specs::step::Checks::first_failing, model::specs::step::Checks::checks))]
-pub fn check(o: Operation, r: Registers, m: usize, t: usize) -> Check
+pub fn check(o: Operation, r: Registers, m: usize, t: usize) -> Result<(), Refusal>
     ensures { Says (first_failing (checks o r m t)) result }
 {
     let kind = o.kind;
-    let lengths = lengths_fit(OLD_WINDOW, m, t);
     let contexts = last_row(OLD_WINDOW, t);
-    let registers = registers_fit(r, contexts);
-    let size = size_fits(kind, o.b);
-    let address = address_fits(OLD_WINDOW, kind, o.a);
-    let value = value_fits(kind, o.b, o.c);
-    let root = new_root_fits(OLD_SPLIT, kind, o.a);
-    let context = context_fits(kind, o.a, o.b, contexts);
-    let mode = mode_fits(kind, o.a);
-    let domains = new_domains_fit(kind, o.a);
-    let asked = may_ask(kind, r.mode);
-    let changes = root_may_change(kind, r.context);
-    if !lengths {
-        return Check::Refuse(Refusal::WrongLengths);
-    }
-    if !registers {
-        return Check::Refuse(Refusal::WrongRegisters);
-    }
-    if !size {
-        return Check::Refuse(Refusal::WrongSize);
-    }
-    if !address {
-        return Check::Refuse(Refusal::WrongAddress);
-    }
-    if !value {
-        return Check::Refuse(Refusal::WrongValue);
-    }
-    check_new_values(root, context, mode, domains, asked, changes)
+    test(lengths_fit(OLD_WINDOW, m, t), Refusal::WrongLengths)?;
+    test(registers_fit(r, contexts), Refusal::WrongRegisters)?;
+    test(size_fits(kind, o.b), Refusal::WrongSize)?;
+    test(address_fits(OLD_WINDOW, kind, o.a), Refusal::WrongAddress)?;
+    test(value_fits(kind, o.b, o.c), Refusal::WrongValue)?;
+    test(new_root_fits(OLD_SPLIT, kind, o.a), Refusal::WrongRoot)?;
+    test(
+        context_fits(kind, o.a, o.b, contexts),
+        Refusal::WrongContext,
+    )?;
+    test(mode_fits(kind, o.a), Refusal::WrongMode)?;
+    test(new_domains_fit(kind, o.a), Refusal::WrongDomains)?;
+    test(may_ask(kind, r.mode), Refusal::UserMode)?;
+    test(root_may_change(kind, r.context), Refusal::NotContext0)
 }
 
 // The first check that a start fails.
 #[tactic(auto, unfolding(model::specs::step::Checks::first_failing, model::specs::step::Checks::start_checks))]
-pub fn check_start(m: usize, t: usize, setting: Setting) -> Check
+pub fn check_start(m: usize, t: usize, setting: Setting) -> Result<(), Refusal>
     ensures { Says (first_failing (start_checks m t setting)) result }
 {
-    if !lengths_fit(OLD_WINDOW, m, t) {
-        return Check::Refuse(Refusal::WrongLengths);
-    }
-    if root_fits(OLD_SPLIT, setting.root) {
-        return Check::Pass;
-    }
-    Check::Refuse(Refusal::WrongRoot)
+    test(lengths_fit(OLD_WINDOW, m, t), Refusal::WrongLengths)?;
+    test(root_fits(OLD_SPLIT, setting.root), Refusal::WrongRoot)
 }
 
 // The number of a refusal.

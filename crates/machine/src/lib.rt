@@ -5,55 +5,36 @@ ghost use Rattle.std.specs.Prelude.{◌≡◌};
 ghost use Rattle.model.specs.step.Machine.{Gives, with_root, with_context, with_mode, with_domains, operate, stepped, started};
 
 use access::size_of;
-use model::{Answer, Check, Kind, OLD_WINDOW, Operation, Registers, Returned, Setting};
+use model::{Answer, Kind, OLD_WINDOW, Operation, Registers, Returned, Setting};
 use transfer::{carry, carry_flushed, fetch, read, write};
 
 // The registers with another root, another context, another mode, another domain register.
 fn with_root(r: Registers, a: u32) -> Registers
     ensures { result ≡ with_root r a }
 {
-    Registers {
-        root: a,
-        context: r.context,
-        mode: r.mode,
-        domains: r.domains,
-    }
+    Registers { root: a, ..r }
 }
 
 fn with_context(r: Registers, a: u32) -> Registers
     ensures { result ≡ with_context r a }
 {
-    Registers {
-        root: r.root,
-        context: a,
-        mode: r.mode,
-        domains: r.domains,
-    }
+    Registers { context: a, ..r }
 }
 
 pub fn with_mode(r: Registers, a: u32) -> Registers
     ensures { result ≡ with_mode r a }
 {
-    Registers {
-        root: r.root,
-        context: r.context,
-        mode: a,
-        domains: r.domains,
-    }
+    Registers { mode: a, ..r }
 }
 
 pub fn with_domains(r: Registers, a: u32) -> Registers
     ensures { result ≡ with_domains r a }
 {
-    Registers {
-        root: r.root,
-        context: r.context,
-        mode: r.mode,
-        domains: a,
-    }
+    Registers { domains: a, ..r }
 }
 
 // An operation that has passed the checks.
+#[tactic(auto, unfolding(model::specs::step::Machine::operate))]
 pub fn carry_out(kind: Kind, o: Operation, r: Registers, m: &mut [u8], t: &mut [u32]) -> Returned
     ensures { Gives (operate kind o r m.old t.old) result m.new t.new }
 {
@@ -85,27 +66,26 @@ pub fn carry_out(kind: Kind, o: Operation, r: Registers, m: &mut [u8], t: &mut [
 }
 
 // One operation: its checks, its effect, and noting.
+#[tactic(auto, unfolding(model::specs::step::Machine::stepped))]
 pub fn step(o: Operation, r: Registers, m: &mut [u8], t: &mut [u32]) -> Returned
     ensures { Gives (stepped o r m.old t.old) result m.new t.new }
 {
     match checks::check(o, r, m.len(), t.len()) {
-        Check::Refuse(n) => Returned {
+        Err(n) => Returned {
             answer: Answer::Refused(n),
             registers: r,
         },
-        Check::Pass => {
-            let kind = o.kind;
-            carry_out(kind, o, r, m, t)
-        }
+        Ok(()) => carry_out(o.kind, o, r, m, t),
     }
 }
 
 // A start: context 0, kernel mode, each field of the domain register 1, the track emptied and noted.
+#[tactic(auto, unfolding(model::specs::step::Machine::started))]
 pub fn start(m: &[u8], t: &mut [u32], setting: Setting) -> Returned
     ensures { Gives (started m.now t.old setting) result m.now t.new }
 {
     match checks::check_start(m.len(), t.len(), setting) {
-        Check::Refuse(n) => Returned {
+        Err(n) => Returned {
             answer: Answer::Refused(n),
             registers: Registers {
                 root: 0,
@@ -114,7 +94,7 @@ pub fn start(m: &[u8], t: &mut [u32], setting: Setting) -> Returned
                 domains: 0,
             },
         },
-        Check::Pass => {
+        Ok(()) => {
             track::flush_all(OLD_WINDOW, t);
             carry_flushed(
                 Answer::Done(0),
@@ -122,7 +102,7 @@ pub fn start(m: &[u8], t: &mut [u32], setting: Setting) -> Returned
                     root: setting.root,
                     context: 0,
                     mode: 0,
-                    domains: 1431655765, // 0x55555555
+                    domains: 0x55555555,
                 },
                 m,
                 t,

@@ -17,7 +17,8 @@ use Rattle.model.specs.step.Track.{rows_of, last_row, note_track, flush_all}
 use Rattle.model.specs.step.Checks.{checks, start_checks, first_failing, context_fits, domains_fit, registers_fit, size_fits, root_fits, lengths_fit, memory_fits, track_fits}
 use Rattle.model.specs.step.Machine.{After, tables_of, size_of, access_at, read_from, write_to, read_step, write_step, fetch_step, after_checks, started_by, operate, stepped, started, start_registers, zero_registers, turned_back}
 use Rattle.model.specs.Demands.{Call, conditions_of, after, before, visible, Leaves, Total, Faithful}
-use Rattle.model.specs.Types.{Registers, Setting, Operation, Kind, Read, Write, Root, Asid, Mode, All, Addr, Ctx, AddrCtx, Fetch, Domain, Entry, Refusal, StalePage, Size, Four, Purpose, ToRead, ToWrite, ToFetch, Ruling, Allowed, PermissionDenied, DomainDenied, Check, Pass, Refuse, Access, Stale, Fails, Physical}
+use Rattle.model.specs.Types.{Registers, Setting, Operation, Kind, Read, Write, Root, Asid, Mode, All, Addr, Ctx, AddrCtx, Fetch, Domain, Entry, Refusal, StalePage, Size, Four, Purpose, ToRead, ToWrite, ToFetch, Ruling, Allowed, PermissionDenied, DomainDenied, Check, Access, Stale, Fails, Physical}
+use Rattle.std.specs.Prelude.{Ok, Err}
 use Rattle.model.proofs.BoolLaws.{push}
 use Rattle.model.proofs.Checks.{as_conditions, stale_condition, checks_same, start_checks_same}
 use Rattle.model.proofs.Track.{flush_of, noted_word, noted_length, flushed_word, flushed_length, word_after_lem}
@@ -50,8 +51,8 @@ first_given (x ∷ xs) r p = go x.1 refl p (first_given xs r)
 
 -- a check that refuses, or what comes after the checks
 unfoldable pub or_else : Check → Option ℕ → Option ℕ
-or_else (Refuse n) y = some (refusal_number n)
-or_else Pass y = y
+or_else (Err n) y = some (refusal_number n)
+or_else (Ok tt) y = y
 
 pub first_failing_lem : (xs : List (Bool × Refusal)) (ys : List (ℕ × Bool)) → first_holding (as_conditions xs ++ ys) ≡ or_else (first_failing xs) (first_holding ys)
 unfolding first_holding as_conditions first_failing or_else
@@ -59,7 +60,7 @@ first_failing_lem [] ys = refl
 first_failing_lem (x ∷ xs) ys = go x.0 (first_failing_lem xs ys)
   where
     go : (b : Bool) → first_holding (as_conditions xs ++ ys) ≡ or_else (first_failing xs) (first_holding ys) →
-        cond (not b) (some (refusal_number x.1)) (first_holding (as_conditions xs ++ ys)) ≡ or_else (cond b (first_failing xs) (Refuse x.1)) (first_holding ys)
+        cond (not b) (some (refusal_number x.1)) (first_holding (as_conditions xs ++ ys)) ≡ or_else (cond b (first_failing xs) (Err x.1)) (first_holding ys)
     go true rest = rest
     go false rest = refl
 
@@ -68,12 +69,12 @@ unfoldable pub Hold : List (Bool × Refusal) → Type 0
 Hold [] = Unit {0}
 Hold (x ∷ xs) = (x.0 ≡ true) × Hold xs
 
-pub passed : (xs : List (Bool × Refusal)) → first_failing xs ≡ Pass → Hold xs
+pub passed : (xs : List (Bool × Refusal)) → first_failing xs ≡ Ok tt → Hold xs
 unfolding Hold first_failing
 passed [] p = tt
 passed (x ∷ xs) p = go x.0 refl p (passed xs)
   where
-    go : (b : Bool) → x.0 ≡ b → cond b (first_failing xs) (Refuse x.1) ≡ Pass → (first_failing xs ≡ Pass → Hold xs) → (x.0 ≡ true) × Hold xs
+    go : (b : Bool) → x.0 ≡ b → cond b (first_failing xs) (Err x.1) ≡ Ok tt → (first_failing xs ≡ Ok tt → Hold xs) → (x.0 ≡ true) × Hold xs
     go true e q rest = (e, rest q)
     go false e q rest = absurd (let z : ◌≡◌ {A = Bool} true false = cc in true≢false z)
 
@@ -88,7 +89,7 @@ answer_by none o s = carried_out o s
 abbrev pub checks_of : Call → List (Bool × Refusal)
 checks_of x = checks x.operation x.registers (length x.memory) (length x.track)
 
-pub size_passed : (x : Call) → first_failing (checks_of x) ≡ Pass → size_fits x.operation.kind x.operation.b ≡ true
+pub size_passed : (x : Call) → first_failing (checks_of x) ≡ Ok tt → size_fits x.operation.kind x.operation.b ≡ true
 unfolding Hold checks
 size_passed x p = (passed (checks_of x) p).1.1.0
 
@@ -101,8 +102,8 @@ step_same x = go (first_failing (checks_of x)) refl ∙ ap (λ y. answer_by y x.
   where
     go : (y : Check) → first_failing (checks_of x) ≡ y →
         visible (after_checks y x.operation x.registers x.memory x.track) ≡ answer_by (or_else y (first_holding (stale_condition x ∷ []))) x.operation (before x)
-    go (Refuse n) e = unfold or_else answer_by in refl
-    go Pass e =
+    go (Err n) e = unfold or_else answer_by in refl
+    go (Ok tt) e =
         operate_same x.operation x.registers x.memory x.track (size_passed x e)
         ∙ unfold or_else answer_by first_holding in sym (push (λ y. answer_by y x.operation (before x)) (refuses16 x.operation x.registers x.memory x.track) (some 16) none)
 
@@ -232,8 +233,8 @@ unfolding stepped
 ended x = go (first_failing (checks_of x))
   where
     go : (y : Check) → Ended (after_checks y x.operation x.registers x.memory x.track) x.registers x.memory x.track (flushed_by x)
-    go (Refuse n) = back n refl
-    go Pass = operate_ended x.operation.kind x.operation x.registers x.memory x.track
+    go (Err n) = back n refl
+    go (Ok tt) = operate_ended x.operation.kind x.operation x.registers x.memory x.track
 
 leaves_back : (y : After) (n : Refusal) (r : Registers) (m t : List ℕ) → y ≡ turned_back n r m t → Leaves y r m t
 leaves_back y n r m t e = record {
@@ -290,7 +291,7 @@ context_in_range r n p = go (root_fits old_split r.root) (ltb r.context n) refl 
     go true false e q = absurd (true≢false (sym q))
     go false y e q = absurd (true≢false (sym q))
 
-pub passed_call : (x : Call) → first_failing (checks_of x) ≡ Pass → Passed x
+pub passed_call : (x : Call) → first_failing (checks_of x) ≡ Ok tt → Passed x
 unfolding Hold checks contexts last_row stepped
 passed_call x p =
     let all = passed (checks_of x) p in
@@ -303,12 +304,12 @@ passed_call x p =
     }
 
 -- a call that is not refused has passed the checks
-passes : (xs : List (Bool × Refusal)) (ys : List (ℕ × Bool)) → first_holding (as_conditions xs ++ ys) ≡ none → first_failing xs ≡ Pass
+passes : (xs : List (Bool × Refusal)) (ys : List (ℕ × Bool)) → first_holding (as_conditions xs ++ ys) ≡ none → first_failing xs ≡ Ok tt
 passes xs ys p = go (first_failing xs) (sym (first_failing_lem xs ys) ∙ p)
   where
-    go : (y : Check) → or_else y (first_holding ys) ≡ none → y ≡ Pass
-    go Pass e = refl
-    go (Refuse n) e = absurd (none_some (refusal_number n) (sym (unfold or_else in e)))
+    go : (y : Check) → or_else y (first_holding ys) ≡ none → y ≡ Ok tt
+    go (Ok tt) e = refl
+    go (Err n) e = absurd (none_some (refusal_number n) (sym (unfold or_else in e)))
 
 pub call_passes : (x : Call) → ((r : ℕ) → Given r (conditions_of x) → ⊥) → Passed x
 call_passes x h = passed_call x (passes (checks_of x) (stale_condition x ∷ []) (ap first_holding (checks_same x) ∙ none_holds (conditions_of x) h))
@@ -366,8 +367,8 @@ unfolding started
 start_same m t g = go (first_failing (start_checks_of m t g)) ∙ ap (λ y. started_as y m g) (sym (start_conditions_by m t g))
   where
     go : (y : Check) → visible (started_by y m t g) ≡ started_as (or_else y none) m g
-    go (Refuse n) = unfold or_else started_as in refl
-    go Pass = unfold or_else started_as fresh in refl
+    go (Err n) = unfold or_else started_as in refl
+    go (Ok tt) = unfold or_else started_as fresh in refl
 
 pub start_exactly_lem : (m t : List ℕ) (g : Setting) (r : ℕ) → (shown (started m t g).answer ≡ refused r) ↔ Given r (start_conditions m t g)
 start_exactly_lem m t g r = (to, from)
@@ -421,8 +422,8 @@ unfolding started
 begun m t g = go (first_failing (start_checks_of m t g)) refl
   where
     go : (y : Check) → first_failing (start_checks_of m t g) ≡ y → Begun (started_by y m t g) m t g
-    go (Refuse n) e = back n refl
-    go Pass e = done (unfold is_refused in refl) (has_context old_window m t (unfold Hold start_checks in (passed (start_checks_of m t g) e).0)) refl
+    go (Err n) e = back n refl
+    go (Ok tt) e = done (unfold is_refused in refl) (has_context old_window m t (unfold Hold start_checks in (passed (start_checks_of m t g) e).0)) refl
 
 pub start_unchanged_lem : (m t : List ℕ) (g : Setting) (r : ℕ) → shown (started m t g).answer ≡ refused r → Leaves (started m t g) zero_registers m t
 start_unchanged_lem m t g r p = go (begun m t g)

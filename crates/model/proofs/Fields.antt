@@ -19,7 +19,7 @@ by_four d =
     ∙ (let q : 2 * (2 * 2 ^ (2 * d)) ≡ 4 * 2 ^ (2 * d) = omega arith in q)
 
 -- a field by division
-by_division : (w d : ℕ) → field_at w d ≡ w / 2 ^ (2 * d) % 4
+pub by_division : (w d : ℕ) → field_at w d ≡ w / 2 ^ (2 * d) % 4
 unfolding field_at
 by_division w zero = ap (λ n. n % 4) (sym (div-one w))
 by_division w (suc d) =

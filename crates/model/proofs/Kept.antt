@@ -24,7 +24,7 @@ use Rattle.model.specs.step.Walk.{walk_page}
 use Rattle.model.specs.step.Checks.{checks, first_failing, address_fits}
 use Rattle.model.specs.step.Machine.{After, tables_of, started}
 use Rattle.model.specs.Demands.{Call, conditions_of, after}
-use Rattle.model.specs.Types.{Setting, Operation, Kind, Read, Write, Root, Asid, Mode, All, Addr, Ctx, AddrCtx, Fetch, Domain, Entry, Refusal, Check, Pass, Refuse, Outcome}
+use Rattle.model.specs.Types.{Setting, Operation, Kind, Read, Write, Root, Asid, Mode, All, Addr, Ctx, AddrCtx, Fetch, Domain, Entry, Refusal, Check, Outcome}
 use Rattle.model.proofs.BoolLaws.{and_both}
 use Rattle.model.proofs.Walk.{translation, walk_same}
 use Rattle.model.proofs.Entries.{Fits, same_true, same_false, entry_discrete, decoded}
@@ -403,7 +403,7 @@ not16 : List (Bool × Refusal) → Bool
 not16 [] = true
 not16 (x ∷ xs) = not (eqb (refusal_number x.1) 16) && not16 xs
 
-failing_not16 : (xs : List (Bool × Refusal)) (n : Refusal) → not16 xs ≡ true → first_failing xs ≡ Refuse n → refusal_number n ≡ 16 → ⊥
+failing_not16 : (xs : List (Bool × Refusal)) (n : Refusal) → not16 xs ≡ true → first_failing xs ≡ Err n → refusal_number n ≡ 16 → ⊥
 unfolding not16 first_failing
 failing_not16 [] n h p e = let z : ◌≡◌ {A = Bool} true false = cc in true≢false z
 failing_not16 (x ∷ xs) n h p e = go x.0 p (failing_not16 xs n)
@@ -411,26 +411,26 @@ failing_not16 (x ∷ xs) n h p e = go x.0 p (failing_not16 xs n)
     q : (not (eqb (refusal_number x.1) 16) ≡ true) × (not16 xs ≡ true)
     q = and_both (not (eqb (refusal_number x.1) 16)) (not16 xs) h
 
-    go : (b : Bool) → cond b (first_failing xs) (Refuse x.1) ≡ Refuse n → (not16 xs ≡ true → first_failing xs ≡ Refuse n → refusal_number n ≡ 16 → ⊥) → ⊥
+    go : (b : Bool) → cond b (first_failing xs) (Err x.1) ≡ Err n → (not16 xs ≡ true → first_failing xs ≡ Err n → refusal_number n ≡ 16 → ⊥) → ⊥
     go true r rest = rest q.1 r e
     go false r rest =
         let z : x.1 ≡ n = cc in
         true≢false (sym q.0 ∙ ap not (eq-eqb (refusal_number x.1) 16 (ap refusal_number z ∙ e)))
 
 -- an access that is refused by no other number has passed the checks
-pub passes_checks : (x : Call) → ((r : ℕ) → shown (after x).answer ≡ refused r → r ≡ 16) → first_failing (checks_of x) ≡ Pass
+pub passes_checks : (x : Call) → ((r : ℕ) → shown (after x).answer ≡ refused r → r ≡ 16) → first_failing (checks_of x) ≡ Ok tt
 unfolding checks
 passes_checks x h = go (first_failing (checks_of x)) refl
   where
-    go : (y : Check) → first_failing (checks_of x) ≡ y → y ≡ Pass
-    go Pass e = refl
-    go (Refuse n) e =
+    go : (y : Check) → first_failing (checks_of x) ≡ y → y ≡ Ok tt
+    go (Ok tt) e = refl
+    go (Err n) e =
         absurd (failing_not16 (checks_of x) n (unfold not16 in refl) e
         (h (refusal_number n) ((exactly x (refusal_number n)).1 (first_given (conditions_of x) (refusal_number n)
         (conditions_by x ∙ ap (λ y. or_else y (first_holding (stale_condition x ∷ []))) e ∙ (unfold or_else in refl))))))
 
 -- then 16 is given exactly when its condition holds
-pub given_16 : (x : Call) → first_failing (checks_of x) ≡ Pass → (shown (after x).answer ≡ refused 16) ↔ (refuses16 x.operation x.registers x.memory x.track ≡ true)
+pub given_16 : (x : Call) → first_failing (checks_of x) ≡ Ok tt → (shown (after x).answer ≡ refused 16) ↔ (refuses16 x.operation x.registers x.memory x.track ≡ true)
 given_16 x p = (λ q. to (refuses16 x.operation x.registers x.memory x.track) refl ((exactly x 16).0 q), from)
   where
     first : first_holding (conditions_of x) ≡ cond (refuses16 x.operation x.registers x.memory x.track) (some 16) none
@@ -518,7 +518,7 @@ stale_at s t o k p h = (to, from)
     by_number : (r : ℕ) → shown (call_of s t o).answer ≡ refused r → r ≡ 16
     by_number r e = h r (ap reply_of e)
 
-    pass : first_failing (checks_of (call_at s t o)) ≡ Pass
+    pass : first_failing (checks_of (call_at s t o)) ≡ Ok tt
     pass = passes_checks (call_at s t o) by_number
 
     -- the rows that the context uses are in the track

@@ -21,7 +21,8 @@ use Rattle.model.specs.step.Machine.{After, started, stepped}
 use Rattle.model.specs.Demands.{Call, after}
 use Rattle.model.specs.Invisible.{Session, begun, Accepted, told_of, chip_start_of, plain_end, at_end, is_access, aligned_access, CouldDiffer, Exactly, Invisible, checker}
 use Rattle.model.specs.Wrong.{SameBegins, SamePlain, SameChip, StaleOnlyThen, StaleAlwaysThen, StartsInUserMode, SaysStaleAtOnce, Orderly, Copies, NeverStale, GoesByTrack, AlikeBut, LooksElsewhere}
-use Rattle.model.specs.Types.{Registers, Setting, Operation, Kind, Read, Write, Root, Asid, Mode, All as AllSets, Addr, Ctx, AddrCtx, Fetch, Domain, Entry, Pass}
+use Rattle.model.specs.Types.{Registers, Setting, Operation, Kind, Read, Write, Root, Asid, Mode, All as AllSets, Addr, Ctx, AddrCtx, Fetch, Domain, Entry}
+use Rattle.std.specs.Prelude.{Ok}
 use Rattle.model.proofs.BoolLaws.{and_both, three_or}
 use Rattle.model.proofs.Calls.{first_holding, given_first, none_some, not_refused, exactly, start_exactly_lem, start_words_lem, track_length_lem, start_track_length_lem, size_passed, checks_of, Begun, begun as begunBy, back as turned, done as noted-then}
 use Rattle.model.proofs.Kept.{begins as fresh-begins, passes_checks, given_16}
@@ -474,7 +475,7 @@ named_size AddrCtx a b c p s = absurd (true≢false (sym p))
 named_size Fetch a b c p s = refl
 named_size Domain a b c p s = absurd (true≢false (sym p))
 
-passes_16 : (x : Call) → shown (after x).answer ≡ refused 16 → first_failing (checks_of x) ≡ Pass
+passes_16 : (x : Call) → shown (after x).answer ≡ refused 16 → first_failing (checks_of x) ≡ Ok tt
 passes_16 x q = passes_checks x (λ r e. same r (sym q ∙ e))
   where
     same : (r : ℕ) → ◌≡◌ {A = Result} (refused 16) (refused r) → r ≡ 16

@@ -1,7 +1,7 @@
 -- The numbers that the rules give to kinds, faults and refusals, and what an answer shows.
 use Rattle.std.specs.Prelude.{ℕ, Ok, Err}
 use Rattle.std.proofs.Math.Option.{Option, none, some}
-use Rattle.model.specs.Types.{Kind, Read, Write, Root, Asid, Mode, All, Addr, Ctx, AddrCtx, Fetch, Domain, Fault, Alignment, FirstUnmapped, SecondUnmapped, SectionDomain, PageDomain, SectionPermission, PagePermission, FirstOutside, SecondOutside, AccessOutside, Refusal, WrongSize, WrongAddress, WrongValue, WrongRoot, WrongContext, WrongMode, WrongLengths, WrongRegisters, UserMode, StalePage, WrongDomains, NotContext0, Answer, Done, Faulted, Refused, Check, Pass, Refuse, FirstOutcome, Table, Section, Access, Stale, Fails, Physical}
+use Rattle.model.specs.Types.{Kind, Read, Write, Root, Asid, Mode, All, Addr, Ctx, AddrCtx, Fetch, Domain, Fault, Alignment, FirstUnmapped, SecondUnmapped, SectionDomain, PageDomain, SectionPermission, PagePermission, FirstOutside, SecondOutside, AccessOutside, Refusal, WrongSize, WrongAddress, WrongValue, WrongRoot, WrongContext, WrongMode, WrongLengths, WrongRegisters, UserMode, StalePage, WrongDomains, NotContext0, Answer, Done, Faulted, Refused, Check, FirstOutcome, Table, Section, Access, Stale, Fails, Physical}
 
 -- the place of a kind in the rules' list of operations
 abbrev pub kind_number : Kind → ℕ
@@ -57,8 +57,8 @@ shown (Refused r) = refused (refusal_number r)
 
 -- the number with which a check refuses, if it does
 abbrev pub check_number : Check → Option ℕ
-check_number Pass = none
-check_number (Refuse r) = some (refusal_number r)
+check_number (Ok tt) = none
+check_number (Err r) = some (refusal_number r)
 
 -- the status code of a level-one word that maps nothing; none for a table or a section
 abbrev pub first_fault : FirstOutcome → Option ℕ

@@ -25,8 +25,6 @@ pub use Rattle.model.specs.declared.Pointer.{Pointer}
 pub use Rattle.model.specs.declared.FirstLevel.{FirstLevel}
 pub use Rattle.model.specs.declared.FirstLevel.TheVariants.{Table, Section}
 pub use Rattle.model.specs.declared.Tables.{Tables}
-pub use Rattle.model.specs.declared.Check.{Check}
-pub use Rattle.model.specs.declared.Check.TheVariants.{Pass, Refuse}
 pub use Rattle.model.specs.declared.Access.{Access}
 pub use Rattle.model.specs.declared.Access.TheVariants.{Stale, Fails, Physical}
 
@@ -36,3 +34,7 @@ FirstOutcome = Result FirstLevel Fault
 
 abbrev pub Outcome : Type 0
 Outcome = Result Entry Fault
+
+-- what checks come to: `Ok` where all pass, or the refusal of the first that fails
+abbrev pub Check : Type 0
+Check = Result (Unit {0}) Refusal

@@ -166,13 +166,6 @@ pub struct Tables {
 // What the walk of a page finds.
 pub type Outcome = Result<Entry, Fault>;
 
-// Whether the checks before an access let an operation pass.
-#[derive(Clone, Copy)]
-pub enum Check {
-    Pass,
-    Refuse(Refusal),
-}
-
 // What an access comes to: its page is stale, it faults, or its bytes lie at a physical address.
 #[derive(Clone, Copy)]
 pub enum Access {

@@ -18,7 +18,8 @@ use Rattle.model.specs.declared.Fault.{Fault}
 use Rattle.model.specs.declared.Operation.{Operation}
 use Rattle.model.specs.declared.Refusal.{Refusal}
 use Rattle.model.specs.declared.Registers.{Registers}
-use Rattle.model.specs.declared.Check.{Check}
+use Rattle.model.specs.Types.{Check}
+use Rattle.std.specs.Prelude.{Ok, Err, is_ok}
 use Rattle.model.specs.step.Checks.{start_checks, first_failing}
 use Rattle.model.specs.declared.Returned.{Returned}
 use Rattle.model.specs.step.Machine.{After, Gives, started}
@@ -146,9 +147,14 @@ memory_fits n k h = go (leb n image_limit)
     go false = omega arith
 
 -- what the check of a start says of looking at the list
-pub looked : (n k : ℕ) (x y : Check) → k ≡ memory_length n → x ≡ first_failing (start_checks k track_length setting) → x ≡ y → passes y ≡ looks_at_list n
+pub looked : (n k : ℕ) (x : Check) → k ≡ memory_length n → x ≡ first_failing (start_checks k track_length setting) → passes x ≡ looks_at_list n
 unfolding looks_at_list
-looked n k x y e f g = ap passes (sym g ∙ f) ∙ ap (λ (z : ℕ). passes (first_failing (start_checks z track_length setting))) e
+looked n k x e f = ap passes f ∙ ap (λ (z : ℕ). passes (first_failing (start_checks z track_length setting))) e
+
+-- `is_ok` of the library is `passes`
+pub ok_passes : (x : Check) → is_ok x ≡ passes x
+ok_passes (Ok tt) = refl
+ok_passes (Err r) = refl
 
 module _ (i : List ℕ) (n : ℕ) (l : List ℕ) (k : ℕ) (t out : List ℕ) where
   pub call_short : length out < report_limit → called i n l k t out ≡ unchanged ShortBuffer i t out

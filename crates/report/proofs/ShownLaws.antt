@@ -18,8 +18,8 @@ use Rattle.model.specs.declared.Answer.TheVariants.{Done, Faulted, Refused}
 use Rattle.model.specs.declared.Operation.{Operation}
 use Rattle.model.specs.reference.Rules.{Move}
 use Rattle.model.specs.reference.Runs.{next, checker_run, is_refused, seen, Moment, chip_seen}
-use Rattle.model.specs.declared.Check.{Check}
-use Rattle.model.specs.declared.Check.TheVariants.{Pass, Refuse}
+use Rattle.model.specs.Types.{Check}
+use Rattle.std.specs.Prelude.{Ok, Err}
 use Rattle.model.specs.step.Checks.{start_checks, first_failing}
 use Rattle.model.specs.step.Machine.{After, started, started_by}
 use Rattle.model.specs.Invisible.{Accepted, checker, plain_run_of, chip_run_of}
@@ -82,8 +82,8 @@ start_refused (Refused r) x l h = refl
 -- a start is accepted exactly if its checks let it pass
 start_passes : (c : Check) (m t : List ℕ) → passes c ≡ not (is_refused (shown (started_by c m t setting).answer))
 unfolding is_refused
-start_passes Pass m t = refl
-start_passes (Refuse r) m t = refl
+start_passes (Ok tt) m t = refl
+start_passes (Err r) m t = refl
 
 memory_most : (n : ℕ) (i : List ℕ) → n ≤ length i → length (take (memory_length n) i) ≡ memory_length n
 memory_most n i h = length-take-le (memory_length n) i (memory_fits n (length i) h)

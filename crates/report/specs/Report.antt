@@ -1,11 +1,10 @@
 -- The whole report: from the bytes of an image and of a list to the bytes of the report.
-use Rattle.std.specs.Prelude.{ℕ, suc, ◌+◌, ◌≡◌, Bool, true, false, cond, List, [], ◌∷◌, ◌++◌, leb, ltb, eqb, length, take, drop}
+use Rattle.std.specs.Prelude.{ℕ, suc, ◌+◌, ◌≡◌, Bool, true, false, cond, List, [], ◌∷◌, ◌++◌, leb, ltb, eqb, length, take, drop, Ok, Err}
 use Rattle.model.specs.Numbers.{Result, refused, refusal_number, shown}
 use Rattle.model.specs.declared.Operation.{Operation}
 use Rattle.model.specs.declared.Answer.{Answer}
 use Rattle.model.specs.declared.Answer.TheVariants.{Done, Faulted, Refused}
-use Rattle.model.specs.declared.Check.{Check}
-use Rattle.model.specs.declared.Check.TheVariants.{Pass, Refuse}
+use Rattle.model.specs.Types.{Check}
 use Rattle.model.specs.step.Checks.{start_checks, first_failing}
 use Rattle.model.specs.step.Machine.{After, started}
 use Rattle.model.specs.reference.Rules.{rooted}
@@ -36,8 +35,8 @@ memory_length n = cond (leb n image_limit) n 0
 
 -- whether a check lets a start pass
 abbrev pub passes : Check → Bool
-passes Pass = true
-passes (Refuse r) = false
+passes (Ok tt) = true
+passes (Err r) = false
 
 -- whether the list is looked at: only after a start, from an image file of n bytes, that is accepted
 unfoldable pub looks_at_list : ℕ → Bool

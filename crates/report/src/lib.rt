@@ -10,7 +10,7 @@ ghost use Rattle.listing.specs.Whole.{read_list, read_lines};
 ghost use Rattle.report.specs.Report.{memory_length, looks_at_list, replayed, body_of, report_of, Ran, called, GivesReport};
 
 use listing::{Line, Reason};
-use model::{Answer, Check, Registers, Setting};
+use model::{Answer, Registers, Setting};
 
 // What a call answers: how long the report is, or why there is none.
 #[derive(Clone, Copy)]
@@ -35,10 +35,7 @@ fn memory_length(n: usize) -> usize
 pub fn looks_at_list(n: usize) -> bool
     ensures { result ≡ looks_at_list n }
 {
-    match checks::check_start(memory_length(n), 9216, Setting { root: 0 }) { // track_length
-        Check::Pass => true,
-        Check::Refuse(_) => false,
-    }
+    checks::check_start(memory_length(n), 9216, Setting { root: 0 }).is_ok() // track_length
 }
 
 // Carries out the lines of a list, the first of which is line 2, on a track that is noted, and puts their lines into the report.

@@ -14,8 +14,8 @@ ghost use Rattle.runs.specs.Step.{no_page, every_page, after_write, note_one_pag
 use access::{access_at, size_of};
 use machine::{carry_out, with_domains, with_mode};
 use model::{
-    Access, Answer, Check, Kind, OLD_WINDOW, Operation, Purpose, Refusal, Registers, Returned,
-    Size, Tables,
+    Access, Answer, Kind, OLD_WINDOW, Operation, Purpose, Refusal, Registers, Returned, Size,
+    Tables,
 };
 use page_noting::note_page;
 use transfer::value_of;
@@ -24,22 +24,14 @@ use transfer::value_of;
 fn read_from(x: Access, size: Size, r: Registers, m: &[u8], t: &[u32]) -> Returned
     ensures { Gives (noted_so_far old_window no_page (read_from x size r m.now t.now) t.now) result m.now t.now }
 {
-    match x {
-        Access::Stale => Returned {
-            answer: Answer::Refused(Refusal::StalePage),
-            registers: r,
-        },
-        Access::Fails(f) => Returned {
-            answer: Answer::Faulted(f),
-            registers: r,
-        },
-        Access::Physical(p) => {
-            let v = value_of(memory::load(m, p, size));
-            Returned {
-                answer: Answer::Done(v),
-                registers: r,
-            }
-        }
+    let answer = match x {
+        Access::Stale => Answer::Refused(Refusal::StalePage),
+        Access::Fails(f) => Answer::Faulted(f),
+        Access::Physical(at) => Answer::Done(value_of(memory::load(m, at, size))),
+    };
+    Returned {
+        answer,
+        registers: r,
     }
 }
 
@@ -49,48 +41,33 @@ fn store(at: usize, size: Size, v: u32, r: Registers, m: &mut [u8], t: &mut [u32
 {
     if quiet::is_quiet(OLD_WINDOW, m, Tables { root: r.root }, at, size) {
         memory::store(m, at, size, v);
-        return;
+    } else {
+        transfer::store_and_note(at, size, v, r, m, t);
     }
-    transfer::store_and_note(at, size, v, r, m, t);
 }
 
 // A write, by what its access comes to.
 fn write_to(x: Access, size: Size, v: u32, r: Registers, m: &mut [u8], t: &mut [u32]) -> Returned
     ensures { Gives (noted_so_far old_window (after_write old_window x size (tables_of r) m.old) (write_to x size v r m.old t.old) t.old) result m.new t.new }
 {
-    match x {
-        Access::Stale => Returned {
-            answer: Answer::Refused(Refusal::StalePage),
-            registers: r,
-        },
-        Access::Fails(why) => Returned {
-            answer: Answer::Faulted(why),
-            registers: r,
-        },
-        Access::Physical(p) => {
-            store(p, size, v, r, m, t);
-            Returned {
-                answer: Answer::Done(0),
-                registers: r,
-            }
+    let answer = match x {
+        Access::Stale => Answer::Refused(Refusal::StalePage),
+        Access::Fails(why) => Answer::Faulted(why),
+        Access::Physical(at) => {
+            store(at, size, v, r, m, t);
+            Answer::Done(0)
         }
+    };
+    Returned {
+        answer,
+        registers: r,
     }
 }
 
-// Empties the sets of a page in every row, and notes it again.
-fn flush_page(page: usize, r: Registers, m: &[u8], t: &mut [u32])
-    ensures { t.new ≡ note_one_page old_window m.now (tables_of r) r.context page (flush_page old_window page t.old) }
+// Notes again a page whose sets have been emptied.
+fn note_again(page: usize, r: Registers, m: &[u8], t: &mut [u32])
+    ensures { t.new ≡ note_one_page old_window m.now (tables_of r) r.context page t.old }
 {
-    track::flush_page(OLD_WINDOW, t, page);
-    let tables = Tables { root: r.root };
-    note_page(OLD_WINDOW, m, tables, t, r.context as usize, page);
-}
-
-// Empties the set of a page in a context and its global set, and notes it again.
-fn flush_page_in(named: u32, page: usize, r: Registers, m: &[u8], t: &mut [u32])
-    ensures { t.new ≡ note_one_page old_window m.now (tables_of r) r.context page (flush_page_in old_window named page t.old) }
-{
-    track::flush_page_in(OLD_WINDOW, t, named as usize, page);
     let tables = Tables { root: r.root };
     note_page(OLD_WINDOW, m, tables, t, r.context as usize, page);
 }
@@ -117,37 +94,27 @@ fn done(r: Registers) -> Returned
 }
 
 // An operation that has passed the checks.
+#[tactic(auto, unfolding(runs::specs::Step::run_operate, runs::specs::Step::extent_of, runs::specs::Step::flushed_by, model::specs::step::Machine::operate, model::specs::step::Machine::read_step, model::specs::step::Machine::write_step, model::specs::step::Machine::fetch_step))]
 fn operate(kind: Kind, o: Operation, r: Registers, m: &mut [u8], t: &mut [u32]) -> Returned
     ensures { Gives (run_operate kind o r m.old t.old) result m.new t.new }
 {
     match kind {
         Kind::Read => {
             let size = size_of(o.b);
-            read_from(
-                access_at(r, m, t, Purpose::ToRead, size, o.a),
-                size,
-                r,
-                m,
-                t,
-            )
+            let x = access_at(r, m, t, Purpose::ToRead, size, o.a);
+            read_from(x, size, r, m, t)
         }
         Kind::Write => {
             let size = size_of(o.b);
-            write_to(
-                access_at(r, m, t, Purpose::ToWrite, size, o.a),
-                size,
-                o.c,
-                r,
-                m,
-                t,
-            )
+            let x = access_at(r, m, t, Purpose::ToWrite, size, o.a);
+            write_to(x, size, o.c, r, m, t)
         }
-        Kind::Root => carry_out(kind, o, r, m, t),
-        Kind::Asid => carry_out(kind, o, r, m, t),
+        Kind::Root | Kind::Asid | Kind::All => carry_out(kind, o, r, m, t),
         Kind::Mode => done(with_mode(r, o.a)),
-        Kind::All => carry_out(kind, o, r, m, t),
         Kind::Addr => {
-            flush_page(o.a as usize / 4096, r, m, t); // page_size
+            let page = o.a as usize / 4096; // page_size
+            track::flush_page(OLD_WINDOW, t, page);
+            note_again(page, r, m, t);
             done(r)
         }
         Kind::Ctx => {
@@ -155,32 +122,29 @@ fn operate(kind: Kind, o: Operation, r: Registers, m: &mut [u8], t: &mut [u32]) 
             done(r)
         }
         Kind::AddrCtx => {
-            flush_page_in(o.b, o.a as usize / 4096, r, m, t); // page_size
+            let page = o.a as usize / 4096; // page_size
+            track::flush_page_in(OLD_WINDOW, t, o.b as usize, page);
+            note_again(page, r, m, t);
             done(r)
         }
-        Kind::Fetch => read_from(
-            access_at(r, m, t, Purpose::ToFetch, Size::Four, o.a),
-            Size::Four,
-            r,
-            m,
-            t,
-        ),
+        Kind::Fetch => {
+            let x = access_at(r, m, t, Purpose::ToFetch, Size::Four, o.a);
+            read_from(x, Size::Four, r, m, t)
+        }
         Kind::Domain => done(with_domains(r, o.a)),
     }
 }
 
 // One operation in a run: its checks, its effect, and as much noting as it calls for.
+#[tactic(auto, unfolding(runs::specs::Step::run_stepped))]
 pub fn step(o: Operation, r: Registers, m: &mut [u8], t: &mut [u32]) -> Returned
     ensures { Gives (run_stepped o r m.old t.old) result m.new t.new }
 {
     match checks::check(o, r, m.len(), t.len()) {
-        Check::Refuse(n) => Returned {
+        Err(n) => Returned {
             answer: Answer::Refused(n),
             registers: r,
         },
-        Check::Pass => {
-            let kind = o.kind;
-            operate(kind, o, r, m, t)
-        }
+        Ok(()) => operate(o.kind, o, r, m, t),
     }
 }

@@ -20,8 +20,8 @@ use Rattle.model.specs.declared.Setting.{Setting}
 use Rattle.model.specs.declared.Operation.{Operation}
 use Rattle.model.specs.declared.Answer.TheVariants.{Done}
 use Rattle.model.specs.declared.Kind.TheVariants.{All}
-use Rattle.model.specs.declared.Check.{Check}
-use Rattle.model.specs.declared.Check.TheVariants.{Pass, Refuse}
+use Rattle.model.specs.Types.{Check}
+use Rattle.std.specs.Prelude.{Ok, Err}
 use Rattle.model.specs.declared.Refusal.TheVariants.{WrongLengths, WrongRoot}
 use Rattle.model.proofs.Track.{flush_of, flushed_word, flushed_length}
 use Rattle.model.proofs.Calls.{Hold, passed, track_length_lem, start_track_length_lem, has_context}
@@ -62,11 +62,11 @@ all_same w m t v p e =
     everything = record { kind = All; a = 0; b = 0; c = 0 }
 
 -- a start passes its checks where an operation does that is handed its registers and a track of the same length
-start_passes : (o : Operation) (g : Setting) (m t v : List ℕ) → first_failing (checks o (start_registers g) (length m) (length t)) ≡ Pass → length v ≡ length t →
-    first_failing (start_checks (length m) (length v) g) ≡ Pass
+start_passes : (o : Operation) (g : Setting) (m t v : List ℕ) → first_failing (checks o (start_registers g) (length m) (length t)) ≡ Ok tt → length v ≡ length t →
+    first_failing (start_checks (length m) (length v) g) ≡ Ok tt
 unfolding start_checks first_failing Hold checks
 start_passes o g m t v p e =
-    ap₂ (λ (x y : Bool). cond x (cond y Pass (Refuse WrongRoot)) (Refuse WrongLengths)) (ap (lengths_fit old_window (length m)) e ∙ held.0) root_fits_lem
+    ap₂ (λ (x y : Bool). cond x (cond y (Ok tt) (Err WrongRoot)) (Err WrongLengths)) (ap (lengths_fit old_window (length m)) e ∙ held.0) root_fits_lem
   where
     held : Hold (checks o (start_registers g) (length m) (length t))
     held = passed (checks o (start_registers g) (length m) (length t)) p
@@ -82,8 +82,8 @@ as_started_lem o g m t track k q e = go (first_failing (checks o (start_register
     go : (y : Check) → first_failing (checks o (start_registers g) (length m) (length t)) ≡ y →
         is_refused (shown (after_checks y o (start_registers g) m t).answer) ≡ false →
         after_checks y o (start_registers g) m t ≡ started_by (first_failing (start_checks (length m) (length track) g)) m track g
-    go (Refuse n) p r = absurd (true≢false (unfold is_refused in r))
-    go Pass p r =
+    go (Err n) p r = absurd (true≢false (unfold is_refused in r))
+    go (Ok tt) p r =
         ap (λ z. operate z o (start_registers g) m t) k
         ∙ flushed
         ∙ ap (λ z. started_by z m track g) (sym (start_passes o g m t track p e))
@@ -91,7 +91,7 @@ as_started_lem o g m t track k q e = go (first_failing (checks o (start_register
         lengths : lengths_fit old_window (length m) (length t) ≡ true
         lengths = unfold Hold checks in (passed (checks o (start_registers g) (length m) (length t)) p).0
 
-        flushed : operate All o (start_registers g) m t ≡ started_by Pass m track g
+        flushed : operate All o (start_registers g) m t ≡ started_by (Ok tt) m track g
         flushed = unfold operate in ap (λ l. carried (Done 0) (start_registers g) m l) (all_same old_window m t track lengths e)
 
 -- ── Runs ──

@@ -27,8 +27,8 @@ use Rattle.model.specs.declared.Access.TheVariants.{Stale, Fails, Physical}
 use Rattle.model.specs.declared.Purpose.TheVariants.{ToRead, ToWrite, ToFetch}
 use Rattle.model.specs.declared.Size.{Size}
 use Rattle.model.specs.declared.Size.TheVariants.{Four}
-use Rattle.model.specs.declared.Check.{Check}
-use Rattle.model.specs.declared.Check.TheVariants.{Pass, Refuse}
+use Rattle.model.specs.Types.{Check}
+use Rattle.std.specs.Prelude.{Ok, Err}
 use Rattle.model.proofs.BoolLaws.{either}
 use Rattle.model.proofs.Checks.{row_pages}
 use Rattle.model.proofs.Memory.{stored_same}
@@ -279,7 +279,7 @@ step_same o r m t n = go (first_failing (checks_of x)) refl
     x = record { operation = o; registers = r; memory = m; track = t }
 
     go : (y : Check) → first_failing (checks_of x) ≡ y → run_after_checks y o r m t ≡ after_checks y o r m t
-    go (Refuse c) e = refl
-    go Pass e =
+    go (Err c) e = refl
+    go (Ok tt) e =
         let same = track_same o.kind o r m t (passed_call x e).named n in
         unfold run_operate in with_track (operate o.kind o r m t) (run_operate o.kind o r m t).track same

@@ -24,8 +24,8 @@ use Rattle.model.specs.declared.Ruling.{Ruling}
 use Rattle.model.specs.declared.Ruling.TheVariants.{Allowed, PermissionDenied, DomainDenied}
 use Rattle.model.specs.declared.Access.TheVariants.{Physical}
 use Rattle.model.specs.declared.Purpose.TheVariants.{ToWrite}
-use Rattle.model.specs.declared.Check.{Check}
-use Rattle.model.specs.declared.Check.TheVariants.{Pass, Refuse}
+use Rattle.model.specs.Types.{Check}
+use Rattle.std.specs.Prelude.{Ok, Err}
 use Rattle.model.proofs.Calls.{checks_of, plain, words, track_length_lem}
 use Rattle.model.proofs.Effect.{state}
 use Rattle.model.proofs.Instance.{state_of}
@@ -50,8 +50,8 @@ unfolding run_stepped stepped
 alike o r m t = go (first_failing (checks_of (record { operation = o; registers = r; memory = m; track = t })))
   where
     go : (y : Check) → Alike (run_after_checks y o r m t) (after_checks y o r m t)
-    go (Refuse n) = record { answer = refl; registers = refl; memory = refl }
-    go Pass = unfold run_operate in record { answer = refl; registers = refl; memory = refl }
+    go (Err n) = record { answer = refl; registers = refl; memory = refl }
+    go (Ok tt) = unfold run_operate in record { answer = refl; registers = refl; memory = refl }
 
 -- ── From an accepted start ──
 
@@ -65,8 +65,8 @@ store_leaves o r m t p n k e q = go (first_failing (checks_of (record { operatio
     by_kind = unfold operate write_step in (ap (λ x. (write_to x (size_of o.b) o.c r m t).track) e ∙ settled_store old_window r m t n (size_of o.b) p o.c q)
 
     go : (y : Check) → (after_checks y o r m t).track ≡ t
-    go (Refuse c) = refl
-    go Pass = ap (λ x. (operate x o r m t).track) k ∙ by_kind
+    go (Err c) = refl
+    go (Ok tt) = ap (λ x. (operate x o r m t).track) k ∙ by_kind
 
 -- an operation after which each page of the window is walked as before, that leaves the context as it was and flushes nothing, leaves the track
 module _ (s : State) (t : List ℕ) (n : Noted old_window s t) (o : Operation) where

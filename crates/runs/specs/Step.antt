@@ -1,5 +1,5 @@
 -- The step for runs: answer, registers and memory of the full step; of the track it notes only what the operation may have changed.
-use Rattle.std.specs.Prelude.{ℕ, ◌/◌, cond, List, eqb, length, get_or, set}
+use Rattle.std.specs.Prelude.{ℕ, ◌/◌, cond, List, eqb, length, get_or, set, Ok, Err}
 use Rattle.model.specs.Limits.{page_size, old_window, row_size}
 use Rattle.model.specs.step.Memory.{bytes_of}
 use Rattle.model.specs.step.Walk.{walk_page}
@@ -16,8 +16,7 @@ use Rattle.model.specs.declared.Access.{Access}
 use Rattle.model.specs.declared.Access.TheVariants.{Stale, Fails, Physical}
 use Rattle.model.specs.declared.Purpose.TheVariants.{ToWrite}
 use Rattle.model.specs.declared.Size.{Size}
-use Rattle.model.specs.declared.Check.{Check}
-use Rattle.model.specs.declared.Check.TheVariants.{Pass, Refuse}
+use Rattle.model.specs.Types.{Check}
 use Rattle.runs.specs.Quiet.{quiet}
 use Rattle.model.specs.Types.{Outcome}
 
@@ -91,8 +90,8 @@ unfoldable pub run_operate : Kind → Operation → Registers → List ℕ → L
 run_operate k o r m t = noted_so_far old_window (extent_of old_window k o r m t) (operate k o r m t) (flushed_by old_window k o t)
 
 abbrev pub run_after_checks : Check → Operation → Registers → List ℕ → List ℕ → After
-run_after_checks (Refuse n) o r m t = turned_back n r m t
-run_after_checks Pass o r m t = run_operate o.kind o r m t
+run_after_checks (Err n) o r m t = turned_back n r m t
+run_after_checks (Ok tt) o r m t = run_operate o.kind o r m t
 
 -- one operation in a run
 unfoldable pub run_stepped : Operation → Registers → List ℕ → List ℕ → After

@@ -44,7 +44,7 @@ pub fn carry_flushed(answer: Answer, r: Registers, m: &[u8], t: &mut [u32]) -> R
         r.context as usize,
     );
     Returned {
-        answer: answer,
+        answer,
         registers: r,
     }
 }
@@ -68,8 +68,8 @@ fn read_from(x: Access, size: Size, r: Registers, m: &[u8], t: &mut [u32]) -> Re
             registers: r,
         },
         Access::Fails(f) => carry(Answer::Faulted(f), r, m, t),
-        Access::Physical(p) => {
-            let v = value_of(memory::load(m, p, size));
+        Access::Physical(at) => {
+            let v = value_of(memory::load(m, at, size));
             carry(Answer::Done(v), r, m, t)
         }
     }
@@ -85,8 +85,8 @@ fn write_to(x: Access, size: Size, v: u32, r: Registers, m: &mut [u8], t: &mut [
             registers: r,
         },
         Access::Fails(why) => carry(Answer::Faulted(why), r, m, t),
-        Access::Physical(p) => {
-            store_and_note(p, size, v, r, m, t);
+        Access::Physical(at) => {
+            store_and_note(at, size, v, r, m, t);
             Returned {
                 answer: Answer::Done(0),
                 registers: r,
@@ -96,6 +96,7 @@ fn write_to(x: Access, size: Size, v: u32, r: Registers, m: &mut [u8], t: &mut [
 }
 
 // A read whose fields have passed the checks.
+#[tactic(auto, unfolding(model::specs::step::Machine::read_step))]
 pub fn read(a: u32, size: Size, r: Registers, m: &[u8], t: &mut [u32]) -> Returned
     ensures { Gives (read_step a size r m.now t.old) result m.now t.new }
 {
@@ -104,6 +105,7 @@ pub fn read(a: u32, size: Size, r: Registers, m: &[u8], t: &mut [u32]) -> Return
 }
 
 // A write whose fields have passed the checks.
+#[tactic(auto, unfolding(model::specs::step::Machine::write_step))]
 pub fn write(a: u32, size: Size, v: u32, r: Registers, m: &mut [u8], t: &mut [u32]) -> Returned
     ensures { Gives (write_step a size v r m.old t.old) result m.new t.new }
 {
@@ -112,6 +114,7 @@ pub fn write(a: u32, size: Size, v: u32, r: Registers, m: &mut [u8], t: &mut [u3
 }
 
 // A fetch whose address has passed the checks: four bytes.
+#[tactic(auto, unfolding(model::specs::step::Machine::fetch_step))]
 pub fn fetch(a: u32, r: Registers, m: &[u8], t: &mut [u32]) -> Returned
     ensures { Gives (fetch_step a r m.now t.old) result m.now t.new }
 {

@@ -1,9 +1,9 @@
 -- The checks that stand before an access, in their order.
-use Rattle.std.specs.Prelude.{ℕ, zero, suc, ◌+◌, ◌*◌, ◌/◌, ◌%◌, ◌^◌, ◌≡◌, Bool, true, false, cond, List, [], ◌∷◌, eqb, leb, ltb}
+use Rattle.std.specs.Prelude.{ℕ, zero, suc, ◌+◌, ◌*◌, ◌/◌, ◌%◌, ◌^◌, ◌≡◌, Bool, true, false, cond, List, [], ◌∷◌, eqb, leb, ltb, Ok, Err}
 use Rattle.model.specs.Limits.{section_size, old_split, old_window, row_size, memory_unit, memory_most, contexts_most, word_limit}
 use Rattle.model.specs.Numbers.{check_number}
 use Rattle.model.specs.step.Track.{rows_of, last_row}
-use Rattle.model.specs.Types.{Registers, Setting, Operation, Kind, Read, Write, Root, Asid, Mode, All, Addr, Ctx, AddrCtx, Fetch, Domain, Refusal, WrongSize, WrongAddress, WrongValue, WrongRoot, WrongContext, WrongMode, WrongLengths, WrongRegisters, UserMode, WrongDomains, NotContext0, Check, Pass, Refuse}
+use Rattle.model.specs.Types.{Registers, Setting, Operation, Kind, Read, Write, Root, Asid, Mode, All, Addr, Ctx, AddrCtx, Fetch, Domain, Refusal, WrongSize, WrongAddress, WrongValue, WrongRoot, WrongContext, WrongMode, WrongLengths, WrongRegisters, UserMode, WrongDomains, NotContext0, Check}
 
 -- whether n bytes can be a memory, and n words a track
 unfoldable pub memory_fits : ℕ → Bool
@@ -188,8 +188,8 @@ start_checks m t g = (lengths_fit old_window m t, WrongLengths) ∷ (root_fits o
 
 -- the first check that fails
 unfoldable pub first_failing : List (Bool × Refusal) → Check
-first_failing [] = Pass
-first_failing (x ∷ xs) = cond x.0 (first_failing xs) (Refuse x.1)
+first_failing [] = Ok tt
+first_failing (x ∷ xs) = cond x.0 (first_failing xs) (Err x.1)
 
 -- What code says is this check; `number` is its refusal in the numbers of the rules.
 pub record Says (y x : Check) : Type 0 where

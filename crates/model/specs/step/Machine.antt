@@ -7,7 +7,7 @@ use Rattle.model.specs.step.Walk.{walk_page}
 use Rattle.model.specs.step.Rights.{field_at, ruling_of}
 use Rattle.model.specs.step.Track.{note_track, flush_all, flush_page, flush_context, flush_page_in, stale_page}
 use Rattle.model.specs.step.Checks.{checks, start_checks, first_failing}
-use Rattle.model.specs.Types.{Registers, Setting, Tables, Returned, Operation, Kind, Read, Write, Root, Asid, Mode, All, Addr, Ctx, AddrCtx, Fetch, Domain, Entry, Alignment, Fault, SectionDomain, PageDomain, SectionPermission, PagePermission, AccessOutside, Refusal, StalePage, Answer, Done, Faulted, Refused, Size, One, Two, Four, Purpose, ToRead, ToWrite, ToFetch, Ruling, Allowed, PermissionDenied, DomainDenied, Outcome, Check, Pass, Refuse, Access, Stale, Fails, Physical}
+use Rattle.model.specs.Types.{Registers, Setting, Tables, Returned, Operation, Kind, Read, Write, Root, Asid, Mode, All, Addr, Ctx, AddrCtx, Fetch, Domain, Entry, Alignment, Fault, SectionDomain, PageDomain, SectionPermission, PagePermission, AccessOutside, Refusal, StalePage, Answer, Done, Faulted, Refused, Size, One, Two, Four, Purpose, ToRead, ToWrite, ToFetch, Ruling, Allowed, PermissionDenied, DomainDenied, Outcome, Check, Access, Stale, Fails, Physical}
 
 -- What a start or an operation gives: what it returns, and what it leaves in memory and track.
 pub record After : Type 0 where
@@ -126,8 +126,8 @@ operate Fetch o r m t = fetch_step o.a r m t
 operate Domain o r m t = carried (Done 0) (with_domains r o.a) m t
 
 abbrev pub after_checks : Check → Operation → Registers → List ℕ → List ℕ → After
-after_checks (Refuse n) o r m t = turned_back n r m t
-after_checks Pass o r m t = operate o.kind o r m t
+after_checks (Err n) o r m t = turned_back n r m t
+after_checks (Ok tt) o r m t = operate o.kind o r m t
 
 -- one operation
 unfoldable pub stepped : Operation → Registers → List ℕ → List ℕ → After
@@ -141,8 +141,8 @@ abbrev pub zero_registers : Registers
 zero_registers = record { root = 0; context = 0; mode = 0; domains = 0 }
 
 abbrev pub started_by : Check → List ℕ → List ℕ → Setting → After
-started_by (Refuse n) m t g = turned_back n zero_registers m t
-started_by Pass m t g = carried (Done 0) (start_registers g) m (flush_all old_window t)
+started_by (Err n) m t g = turned_back n zero_registers m t
+started_by (Ok tt) m t g = carried (Done 0) (start_registers g) m (flush_all old_window t)
 
 -- start: context 0, kernel mode, each field of the domain register 1, the track emptied and noted
 unfoldable pub started : List ℕ → List ℕ → Setting → After
