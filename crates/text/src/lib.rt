@@ -158,6 +158,7 @@ impl<'a> Writer<'a> {
         ensures holds { self.new.out.now ≡ wrote 8 self.old.out.now self.old.at (hex_of n) }
     {
         if self.has_room(8) {
+            // The last digit comes first, so the digits fill the buffer from its end.
             let mut buf = [0u8; 8];
             let mut i = 7;
             let mut v = n;
