@@ -15,7 +15,8 @@ use Rattle.lines.specs.Words.{is_empty, word_of, has_line, kept, words_from}
 use Rattle.lines.specs.Ways.{gives, refusal, length_fits, lines_text, text_of, lines_of, output}
 use Rattle.lines.proofs.LineLaws.{pair_most}
 use Rattle.lines.proofs.Theorem.{fits_parts}
-use Rattle.line_writer.specs.declared.Told.TheVariants.{Text, ShortBuffer, WrongCounts}
+use Rattle.std.specs.declared.result.Result.TheVariants.{Ok}
+use Rattle.line_writer.specs.declared.WriteError.TheVariants.{ShortBuffer, WrongCounts}
 use Rattle.line_writer.specs.Call.{place_after_word, wrote_word, room_for, LinesCall, in_front, left, called}
 
 pub is_empty_lem : (l : List ℕ) → eqb (length l) 0 ≡ is_empty l
@@ -154,10 +155,10 @@ module _ (limit : ℕ) (image : List ℕ) (n : ℕ) (d : List ℕ) where
     output_refusal k = ap (λ (t : Bool). output (cond t (gives (text_of (words_from 0 (take n image)))) (refusal 0 19))) (same_length ∙ k)
 
     pub gives_text : (s o : List ℕ) (p : ℕ) → has_room (room_for limit n) d 0 ≡ true → output (lines_of limit (take n image)) ≡ s → (p ≡ length s) × (o ≡ over d 0 s)
-        → (Text p ≡ (called limit image n d).told) × (o ≡ (called limit image n d).out)
+        → (Ok p ≡ (called limit image n d).told) × (o ≡ (called limit image n d).out)
     gives_text s o p k e w =
         let c : called limit image n d ≡ in_front s d = called_good h k ∙ ap (λ (x : List ℕ). in_front x d) e in
-        (ap Text w.0 ∙ sym (ap (λ (x : LinesCall). x.told) c), w.1 ∙ sym (ap (λ (x : LinesCall). x.out) c))
+        (ap Ok w.0 ∙ sym (ap (λ (x : LinesCall). x.told) c), w.1 ∙ sym (ap (λ (x : LinesCall). x.out) c))
 
 -- the room that was found is enough
 pub room_fits : (limit n : ℕ) (d : List ℕ) → length_fits limit n ≡ true → has_room (room_for limit n) d 0 ≡ true → (n ≤ 16777216) × (18 + 18 * (n / 4) ≤ length d)

@@ -7,33 +7,32 @@ use native.Mathlib.Omega.{arith}
 use lib.ListN.{length, length-append}
 use Rattle.text.specs.Split.{has, until, past}
 use Rattle.text.specs.Hex.{value_of, hex_of, spelled, lean}
-use Rattle.text.specs.declared.Value.{Value}
-use Rattle.text.specs.declared.Value.TheVariants.{Number, Misspelled}
 use Rattle.text.proofs.SplitLaws.{join, join_parts, has_append, past_none}
 use Rattle.text.proofs.HexLaws.{value_text, text_value, value_bound, hex_lacks, hex_some, hex_length}
 use Rattle.names.specs.Names.{comma, newline}
 use Rattle.names.proofs.NameLaws.{comma_no_digit, newline_no_digit}
-use Rattle.std.specs.declared.option.Option.TheVariants.{Some}
+use Rattle.std.specs.declared.option.Option.{Option}
+use Rattle.std.specs.declared.option.Option.TheVariants.{Some, None}
 use Rattle.lines.specs.Form.{pair_of, line_of, pair_text}
 
-pair_parts : (x y : Value) (a w : ℕ) → pair_of x y ≡ Some (a, w) → (x ≡ Number a) × (y ≡ Number w)
-pair_parts (Number b) (Number v) a w h = let p : ◌≡◌ {A = ℕ × ℕ} (b, v) (a, w) = cc in (ap (λ (x : ℕ × ℕ). Number x.0) p, ap (λ (x : ℕ × ℕ). Number x.1) p)
-pair_parts (Number b) Misspelled a w h = let z : ◌≡◌ {A = ℕ} 0 1 = cc in absurd (omega arith)
-pair_parts Misspelled y a w h = let z : ◌≡◌ {A = ℕ} 0 1 = cc in absurd (omega arith)
+pair_parts : (x y : Option ℕ) (a w : ℕ) → pair_of x y ≡ Some (a, w) → (x ≡ Some a) × (y ≡ Some w)
+pair_parts (Some b) (Some v) a w h = let p : ◌≡◌ {A = ℕ × ℕ} (b, v) (a, w) = cc in (ap (λ (x : ℕ × ℕ). Some x.0) p, ap (λ (x : ℕ × ℕ). Some x.1) p)
+pair_parts (Some b) None a w h = let z : ◌≡◌ {A = ℕ} 0 1 = cc in absurd (omega arith)
+pair_parts None y a w h = let z : ◌≡◌ {A = ℕ} 0 1 = cc in absurd (omega arith)
 
 -- the values of the two fields
-pub line_values : (l : List ℕ) (a w : ℕ) → line_of l ≡ Some (a, w) → (value_of (until comma l) ≡ Number a) × (value_of (past comma l) ≡ Number w)
+pub line_values : (l : List ℕ) (a w : ℕ) → line_of l ≡ Some (a, w) → (value_of (until comma l) ≡ Some a) × (value_of (past comma l) ≡ Some w)
 unfolding line_of
 line_values l a w h = pair_parts (value_of (until comma l)) (value_of (past comma l)) a w h
 
-nothing_misspelled : (w : ℕ) → value_of [] ≡ Number w → ⊥
+nothing_misspelled : (w : ℕ) → value_of [] ≡ Some w → ⊥
 unfolding value_of spelled lean
 nothing_misspelled w h = let z : ◌≡◌ {A = ℕ} 0 1 = cc in omega arith
 
 pub line_text_lem : (l : List ℕ) (a w : ℕ) → line_of l ≡ Some (a, w) → l ≡ hex_of a ++ (comma ∷ hex_of w)
 line_text_lem l a w h = go (has comma l) refl
   where
-    v : (value_of (until comma l) ≡ Number a) × (value_of (past comma l) ≡ Number w)
+    v : (value_of (until comma l) ≡ Some a) × (value_of (past comma l) ≡ Some w)
     v = line_values l a w h
 
     go : (t : Bool) → has comma l ≡ t → l ≡ hex_of a ++ (comma ∷ hex_of w)

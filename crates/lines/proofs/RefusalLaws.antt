@@ -11,8 +11,6 @@ use lib.ListN.{length}
 use borrow.Author.Tests.{ne_eqb, eqb-true, le-leb, lt-leb, le-ltb, ltb-true, ltb-false}
 use Rattle.text.specs.Split.{has, until, past, same}
 use Rattle.text.specs.Hex.{number, value_of}
-use Rattle.text.specs.declared.Value.{Value}
-use Rattle.text.specs.declared.Value.TheVariants.{Number, Misspelled}
 use Rattle.text.proofs.SplitLaws.{past_none, past_shorter}
 use Rattle.text.proofs.HexLaws.{value_text, value_bound, hex_lacks}
 use Rattle.names.specs.Names.{comma, newline}
@@ -34,21 +32,21 @@ abbrev line : List ℕ → Written
 line t = record { text = t; ended = true }
 
 -- a text with a comma is no value
-comma_misspelled : (s : List ℕ) → has comma s ≡ true → value_of s ≡ Misspelled
+comma_misspelled : (s : List ℕ) → has comma s ≡ true → value_of s ≡ None
 comma_misspelled s h = go (value_of s) refl
   where
-    go : (v : Value) → value_of s ≡ v → v ≡ Misspelled
-    go Misspelled e = refl
-    go (Number n) e =
+    go : (v : option.Option ℕ) → value_of s ≡ v → v ≡ None
+    go None e = refl
+    go (Some n) e =
         let f : has comma s ≡ false = ap (has comma) (value_text s n e) ∙ hex_lacks comma n comma_no_digit (value_bound s n e) in
         absurd (true≢false (sym h ∙ f))
 
-empty_misspelled : value_of [] ≡ Misspelled
+empty_misspelled : value_of [] ≡ None
 empty_misspelled = value_read [] ∙ unfold is_value in refl
 
-second_misshapen : (v : Value) → pair_of v Misspelled ≡ None
-second_misshapen (Number a) = refl
-second_misshapen Misspelled = refl
+second_misshapen : (v : option.Option ℕ) → pair_of v None ≡ None
+second_misshapen (Some a) = refl
+second_misshapen None = refl
 
 -- what a line says is what its two fields, if it has two, say
 abbrev Says : List ℕ → Type 0
@@ -58,8 +56,8 @@ two_fields : (t u p : List ℕ) → parts comma t ≡ u ∷ p ∷ [] → line_of
 unfolding misshapen
 two_fields t u p e f = go (is_value u) refl (is_value p) refl
   where
-    pair : (s : Bool) → is_value u ≡ s → (v : Bool) → is_value p ≡ v → line_of t ≡ pair_of (cond s (Number (number 0 u)) Misspelled) (cond v (Number (number 0 p)) Misspelled)
-    pair s a v b = f ∙ ap₂ pair_of (value_read u ∙ ap (λ (x : Bool). cond x (Number (number 0 u)) Misspelled) a) (value_read p ∙ ap (λ (x : Bool). cond x (Number (number 0 p)) Misspelled) b)
+    pair : (s : Bool) → is_value u ≡ s → (v : Bool) → is_value p ≡ v → line_of t ≡ pair_of (cond s (Some (number 0 u)) None) (cond v (Some (number 0 p)) None)
+    pair s a v b = f ∙ ap₂ pair_of (value_read u ∙ ap (λ (x : Bool). cond x (Some (number 0 u)) None) a) (value_read p ∙ ap (λ (x : Bool). cond x (Some (number 0 p)) None) b)
 
     test : (s : Bool) → is_value u ≡ s → (v : Bool) → is_value p ≡ v → not (true && eqb (length (parts comma t)) 2 && is_value (field 0 (parts comma t)) && is_value (field 1 (parts comma t))) ≡ not (s && v)
     test s a v b = ap (λ (fs : List (List ℕ)). not (true && eqb (length fs) 2 && is_value (field 0 fs) && is_value (field 1 fs))) e ∙ ap₂ (λ (x y : Bool). not (x && y)) a b

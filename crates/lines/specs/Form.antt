@@ -2,8 +2,6 @@
 use Rattle.std.specs.Prelude.{ℕ, List, [], ◌∷◌, ◌++◌, Option, Some, None}
 use Rattle.text.specs.Split.{until, past}
 use Rattle.text.specs.Hex.{value_of, hex_of}
-use Rattle.text.specs.declared.Value.{Value}
-use Rattle.text.specs.declared.Value.TheVariants.{Number, Misspelled}
 use Rattle.names.specs.Names.{comma, newline}
 
 -- `at,word`, the names
@@ -11,10 +9,10 @@ abbrev pub line_names : List ℕ
 line_names = 97 ∷ 116 ∷ 44 ∷ 119 ∷ 111 ∷ 114 ∷ 100 ∷ []
 
 -- two values, each of them spelled as in a list
-abbrev pub pair_of : Value → Value → Option (ℕ × ℕ)
-pair_of (Number a) (Number w) = Some (a, w)
-pair_of (Number a) Misspelled = None
-pair_of Misspelled w = None
+abbrev pub pair_of : Option ℕ → Option ℕ → Option (ℕ × ℕ)
+pair_of (Some a) (Some w) = Some (a, w)
+pair_of (Some a) None = None
+pair_of None w = None
 
 -- what a line without its newline says: a value, a comma and a value. A second comma is no digit, and nothing is no value.
 unfoldable pub line_of : List ℕ → Option (ℕ × ℕ)
