@@ -4,6 +4,7 @@ use mathlib.Core.Path.{◌≡◌, ap, ap₂, sym, ◌∙◌}
 use mathlib.Core.Bool.{Bool, true, false, cond}
 use mathlib.Core.List.{List, ◌++◌, append-nil}
 use native.Mathlib.Omega.{arith}
+use native.Mathlib.Nat.{zero-add}
 use lib.Dec.{eqb}
 use lib.ListN.{length, get_or, set, take, drop, replicate, drop_of_length-le, length-replicate, get_or-replicate}
 use lib.Seq.{drop-cons, take_all, paste, paste-suc}
@@ -14,8 +15,10 @@ use Rattle.model.specs.declared.Size.TheVariants.{Four}
 use Rattle.model.specs.step.Memory.{written_at}
 use Rattle.std.specs.declared.option.Option.{Option}
 use Rattle.std.specs.declared.option.Option.TheVariants.{Some, None}
-use Rattle.std.specs.declared.result.Result.TheVariants.{Err}
-use Rattle.lines.specs.Form.{line_names, line_of}
+use Rattle.std.specs.declared.result.Result.TheVariants.{Ok}
+use Rattle.text.specs.Put.{wrote, place_after}
+use Rattle.text.proofs.PutLaws.{wrote_fits}
+use Rattle.lines.specs.Form.{line_names, line_of, pair_text}
 use Rattle.lines.specs.Ways.{gives, refusal, length_fits}
 use Rattle.lines.specs.Settings.{image_limit}
 use Rattle.line_reader.specs.declared.Flaw.{Flaw}
@@ -100,6 +103,14 @@ module _ (r : Reader) (m : List ℕ) where
   pub last_open : complete r ≡ false → last_test r m ≡ refusal (line_after r.lines) 18
   unfolding last_test
   last_open h = rw h
+
+  -- a refusal that was put in front of what the buffer held
+  pub finished_refusal : (n k p : ℕ) (o : List ℕ) → 18 ≤ length m → ending r m ≡ refusal n k
+      → (p ≡ place_after 18 m 0 (pair_text n k)) × (o ≡ wrote 18 m 0 (pair_text n k)) → (Ok p ≡ (finished r m).told) × (o ≡ (finished r m).image)
+  unfolding finished
+  finished_refusal n k p o h e w =
+      let q = wrote_fits 18 m 0 (pair_text n k) p o h w in
+      rw (le-ltb (length m) 18 h, e) (ap Ok (q.0 ∙ zero-add _), q.1)
 
   pub file_good : length m ≡ image_limit → finished_file r m ≡ finished r m
   unfolding finished_file

@@ -106,6 +106,11 @@ line_ended s = cond (eqb s.reader.lines 0) (names_ended s) (said (line_of (so_fa
 unfoldable pub byte_taken : ℕ → State → State
 byte_taken b s = cond s.reader.zero (changed (late_turn s.reader) s) (cond (eqb b newline) (line_ended s) (with_byte b s))
 
+-- the number of the rules for a flaw
+abbrev pub flaw_number : Flaw → ℕ
+flaw_number Form = 18
+flaw_number Order = 19
+
 -- whether a line was turned back
 abbrev pub decides : Option Flaw → Bool
 decides None = false
@@ -131,18 +136,10 @@ complete r = cond (eqb r.count 0) (ltb 0 r.lines) false
 unfoldable pub last_test : Reader → List ℕ → Converted
 last_test r m = cond (complete r) (cond (length_fits (length m) r.end) (gives (take r.end m)) (refusal 0 19)) (refusal (line_after r.lines) 18)
 
--- the number of the rules for a flaw: none where nothing is known against the lines
-abbrev pub flaw_number : Option Flaw → Option ℕ
-flaw_number None = None
-flaw_number (Some Form) = Some 18
-flaw_number (Some Order) = Some 19
-
-abbrev pub by_number : Option ℕ → Reader → List ℕ → Converted
-by_number None r m = last_test r m
-by_number (Some n) r m = refusal r.lines n
-
+-- by why a line was turned back, if one was
 abbrev pub by_flaw : Option Flaw → Reader → List ℕ → Converted
-by_flaw f r m = by_number (flaw_number f) r m
+by_flaw None r m = last_test r m
+by_flaw (Some f) r m = refusal r.lines (flaw_number f)
 
 -- what the end of the input gives
 abbrev pub ending : Reader → List ℕ → Converted

@@ -3,11 +3,12 @@
 #![tactic(auto)]
 
 ghost use Rattle.std.specs.Prelude.{◌≡◌, ◌≤◌, length, replicate, IsNone};
-ghost use Rattle.lines.specs.Form.{pair_of, line_of};
+ghost use Rattle.text.specs.Put.{wrote, place_after};
+ghost use Rattle.lines.specs.Form.{line_of, pair_text, pair_room};
 ghost use Rattle.line_reader.specs.Reading.{SameBuffers, state_of, fresh, line_after, turned, accepted, so_far, with_byte, names_ended, word_ended, line_ended, step, feed, is_decided, complete, ending, ending_by, finished, finished_file};
 
 use model::Size;
-use text::Value;
+use text::Writer;
 
 // Why a line is turned back, by the numbers of the rules: the names or the shape or spelling of a line; an address or a zero word.
 #[derive(Clone, Copy)]
@@ -43,27 +44,23 @@ fn line_after(n: u32) -> u32
     n.saturating_add(1)
 }
 
-// The values of the two fields of a line.
-fn pair(a: Value, w: Value) -> Option<(u32, u32)>
-    ensures { result ≡ pair_of a w }
-{
-    let Value::Number(x) = a else {
-        return None;
-    };
-    let Value::Number(y) = w else {
-        return None;
-    };
-    Some((x, y))
-}
-
 // What a line without its newline says.
 #[tactic(auto, unfolding(lines::specs::Form::line_of))]
 fn read_line(line: &[u8]) -> Option<(u32, u32)>
     ensures { result ≡ line_of line.now }
 {
-    let a = text::read_value(text::until(line, b','));
-    let w = text::read_value(text::past(line, b','));
-    pair(a, w)
+    let a = text::read_value(text::until(line, b','))?;
+    let w = text::read_value(text::past(line, b','))?;
+    Some((a, w))
+}
+
+// Puts a refusal in front of what the buffer holds, and tells how long it is.
+fn refuse(image: &mut [u8], line: u32, number: u32) -> usize
+    ensures { (result ≡ place_after pair_room image.old 0 (pair_text line number)) × (image.new ≡ wrote pair_room image.old 0 (pair_text line number)) }
+{
+    let mut w = Writer::new(image);
+    line_writer::put_pair(&mut w, line, number);
+    w.at
 }
 
 impl Reader {
@@ -125,7 +122,7 @@ impl Reader {
             return Err(FinishError::ShortBuffer);
         }
         match self.refusal(image) {
-            Some((line, number)) => Ok(line_writer::put_pair(image, 0, line, number)),
+            Some((line, number)) => Ok(refuse(image, line, number)),
             None => Ok(self.end),
         }
     }

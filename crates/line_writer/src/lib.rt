@@ -5,7 +5,7 @@ ghost use Rattle.std.specs.Prelude.{◌≡◌, ◌+◌, ◌*◌, ◌/◌, ◌≤
 ghost use Rattle.text.specs.Put.{over, wrote, place_after};
 ghost use Rattle.lines.specs.Form.{pair_text, pair_room};
 ghost use Rattle.lines.specs.Words.{has_line, words_from};
-ghost use Rattle.lines.specs.Ways.{length_fits, lines_text, text_of};
+ghost use Rattle.lines.specs.Ways.{length_fits, lines_text, lines_of, output};
 ghost use Rattle.lines.specs.Settings.{image_limit};
 ghost use Rattle.line_writer.specs.Call.{place_after_word, wrote_word, called, room_for};
 
@@ -75,16 +75,20 @@ fn put_words(w: &mut Writer, image: &[u8])
     }
 }
 
-// Puts the text of an image: the names, then the lines.
-fn put_text(w: &mut Writer, image: &[u8])
-    requires size { length image.now ≤ 16777216 }
-    requires room { w.old.at + (18 + 18 * (length image.now / 4)) ≤ length w.old.out.now }
+// Puts the lines of an image behind their names, or its refusal.
+#[tactic(auto, unfolding(lines::specs::Ways::lines_of, lines::specs::Ways::text_of, crate::specs::Call::room_for))]
+fn put_output(w: &mut Writer, limit: usize, image: &[u8])
+    requires { w.old.at + room_for limit (length image.now) ≤ length w.old.out.now }
     ensures same_buffer { w.new.out.ghost_name ≡ w.old.out.ghost_name }
-    ensures place { w.new.at ≡ w.old.at + length (text_of (words_from 0 image.now)) }
-    ensures holds { w.new.out.now ≡ over w.old.out.now w.old.at (text_of (words_from 0 image.now)) }
+    ensures place { w.new.at ≡ w.old.at + length (output (lines_of limit image.now)) }
+    ensures holds { w.new.out.now ≡ over w.old.out.now w.old.at (output (lines_of limit image.now)) }
 {
-    w.put(b"at,word\n");
-    put_words(w, image);
+    if length_fits(limit, image.len()) {
+        w.put(b"at,word\n");
+        put_words(w, image);
+    } else {
+        put_pair(w, 0, 19);
+    }
 }
 
 // How many bytes a buffer needs for the lines of an image of n bytes.
@@ -110,11 +114,7 @@ pub fn write_lines(limit: usize, image: &[u8], n: usize, out: &mut [u8]) -> Resu
     if !w.has_room(room_for(limit, n)) {
         return Err(WriteError::ShortBuffer);
     }
-    if length_fits(limit, n) {
-        put_text(&mut w, image);
-    } else {
-        put_pair(&mut w, 0, 19);
-    }
+    put_output(&mut w, limit, image);
     Ok(w.at)
 }
 
