@@ -1,7 +1,7 @@
 -- Laws of the spelling of numbers: a turn of the reader, and that spelling and reading undo each other. Assumes nothing.
 use Prim.Native.Nat.{ℕ, zero, suc, ◌+◌, ◌*◌, ◌-◌, ◌/◌, ◌%◌, ◌^◌, ◌≤◌, ◌<◌}
 use mathlib.Core.Path.{◌≡◌, refl, ap, sym, ◌∙◌, subst}
-use mathlib.Core.Bool.{Bool, true, false, cond, not, true≢false}
+use mathlib.Core.Bool.{Bool, true, false, cond, true≢false}
 use mathlib.Core.List.{List, [], ◌∷◌, ◌++◌, append-nil}
 use native.Mathlib.Numerals.{add-one}
 use native.Mathlib.Omega.{arith}
@@ -9,20 +9,12 @@ use native.Mathlib.Nat.{pow-suc, pow-le-pow_right, zero-add, suc-add, add-suc}
 use native.Mathlib.Decide.{dec_lt}
 use mathlib.Core.Logic.{◌⊎◌, inl, inr, ⊎_elim}
 use lib.ListN.{length, drop, get_or, drop_of_length-le}
-use lib.Dec.{eqb, ltb, leb, lit<}
+use lib.Dec.{ltb, leb, lit<}
 use lib.Seq.{drop-cons}
 use borrow.Author.Tests.{ne_eqb, eqb-false, lt-ltb, le-ltb, le-leb, lt-leb, ltb-true, leb-true, leb-false, not-true}
 use Rattle.std.specs.Prelude.{Some, None}
 use Rattle.text.specs.Split.{has}
-use Rattle.text.specs.Hex.{between, digit, digit_of, digits, glyph, number, lean, spelled, value_of, spell, hex_of}
-
--- the low end of a range
-pub between_low : (low high x : ℕ) → between low high x ≡ true → low ≤ x
-between_low low high x h = go (leb low x) refl h
-  where
-    go : (t : Bool) → leb low x ≡ t → cond t (leb x high) false ≡ true → low ≤ x
-    go true e k = leb-true low x e
-    go false e k = absurd (true≢false (sym k))
+use Rattle.text.specs.Hex.{digit, digit_of, digits, glyph, number, lean, spelled, value_of, spell, hex_of}
 
 -- a digit that is read, and a byte that is none
 pub digit_some : (x d : ℕ) → Some d ≡ digit_of x → (digit x < 16) × (d ≡ digit x)
@@ -95,23 +87,6 @@ value_digits s h = rw h (go (leb (length s) 8) (lean s))
 pub value_good : (s : List ℕ) → length s ≤ 8 → lean s ≡ true → digits s ≡ true → Some (number 0 s) ≡ value_of s
 unfolding value_of spelled
 value_good s h k d = rw (le-leb _ _ h, k, d)
-
-pub lean_empty : (s : List ℕ) → length s ≡ 0 → lean s ≡ false
-unfolding lean
-lean_empty [] h = refl
-lean_empty (x ∷ xs) h = absurd (omega arith)
-
-pub lean_one : (s : List ℕ) → length s ≡ 1 → lean s ≡ true
-unfolding lean
-lean_one [] h = absurd (omega arith)
-lean_one (x ∷ []) h = refl
-lean_one (x ∷ y ∷ ys) h = absurd (omega arith)
-
-pub lean_more : (s : List ℕ) → 1 < length s → lean s ≡ not (eqb (get_or s 0 0) 48)
-unfolding lean
-lean_more [] h = absurd (omega arith)
-lean_more (x ∷ []) h = absurd (omega arith)
-lean_more (x ∷ y ∷ ys) h = refl
 
 -- a test and what it says
 below : (a b : ℕ) → (a < b) ⊎ (b ≤ a)

@@ -1,13 +1,12 @@
 -- Laws of putting text into a buffer. Assumes nothing.
-use Prim.Native.Nat.{ℕ, ◌+◌, ◌-◌, ◌≤◌}
+use Prim.Native.Nat.{ℕ, ◌+◌, ◌≤◌}
 use mathlib.Core.Path.{◌≡◌, refl, ap, ap₂, sym, ◌∙◌}
 use mathlib.Core.List.{List, [], ◌++◌, append_assoc}
-use mathlib.Core.Bool.{Bool, true, false}
+use mathlib.Core.Bool.{true, false}
 use native.Mathlib.Omega.{arith}
-use lib.Dec.{leb}
 use lib.ListN.{length, take, drop, length-append, length-drop}
 use lib.Seq.{paste, paste-zero, take-length, take_at, drop-append-add, drop-drop, length-take-le}
-use borrow.Author.Tests.{le-leb, lt-leb, leb-true, leb-false}
+use borrow.Author.Tests.{le-leb, leb-true}
 use borrow.Rule.Slice.PartMut.{put_mid}
 use Rattle.std.proofs.lemmas.Slice.{put_mid-paste}
 use Rattle.text.specs.Put.{over, has_room, wrote, place_after}
@@ -108,11 +107,3 @@ pub put_more : {d s out out' : List ℕ} {at p p' m : ℕ} (k : ℕ) (t : List �
     (p' ≡ place_after k out p t) × (out' ≡ wrote k out p t) → Written d at (s ++ t) out' p' (m + n)
 put_more {out = out} {out' = out'} {p = p} {p' = p'} k t n w a h r e =
     written_more t n w h r (wrote_fits k out p t p' out' (omega (arith, w.place, w.most, w.long)) e)
-
--- the test of the room left, as the code makes it
-pub room_test : (at room n : ℕ) → at ≤ n → leb room (n - at) ≡ leb (at + room) n
-room_test at room n h = go (leb room (n - at)) refl
-  where
-    go : (t : Bool) → leb room (n - at) ≡ t → t ≡ leb (at + room) n
-    go true e = sym (le-leb (at + room) n (omega (arith, leb-true room (n - at) e)))
-    go false e = sym (lt-leb (at + room) n (omega (arith, leb-false room (n - at) e)))

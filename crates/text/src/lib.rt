@@ -2,14 +2,14 @@
 // is total: what does not parse, and what does not fit, is an answer.
 #![tactic(auto)]
 
-ghost use Rattle.std.specs.Prelude.{◌≡◌, ◌<◌, false, length, position, nat_eq, true, MatchOption};
+ghost use Rattle.std.specs.Prelude.{◌≡◌, ◌<◌, false, length, position, ◌==◌, true, MatchOption};
 ghost use Rattle.text.specs.Split.{has, until, past, same};
-ghost use Rattle.text.specs.Hex.{value_of, digit_of, glyph, hex_of};
+ghost use Rattle.text.specs.Hex.{value_of, lean, digit_of, glyph, hex_of};
 ghost use Rattle.text.specs.Put.{has_room, wrote, place_after};
 
 // The place of the first b.
 fn first(s: &[u8], b: u8) -> Option<usize>
-    ensures { result ≡ position (λ x. nat_eq x b) s.now }
+    ensures { result ≡ position (λ x. x == b) s.now }
 {
     s.iter().position(|x| *x == b)
 }
@@ -74,11 +74,23 @@ pub fn digit(x: u8) -> Option<u32>
     }
 }
 
+// Whether a value has a digit, and no `0` in front of others.
+#[tactic(auto, unfolding(crate::specs::Hex::lean))]
+fn lean(s: &[u8]) -> bool
+    ensures { result ≡ lean s.now }
+{
+    match s {
+        [] | [b'0', _, ..] => false,
+        _ => true,
+    }
+}
+
 // The number that a value spells.
+#[tactic(auto, using(crate::proofs::HexLaws::value_long, crate::proofs::HexLaws::value_lean))]
 pub fn read_value(s: &[u8]) -> Option<u32>
     ensures { result ≡ value_of s.now }
 {
-    if s.is_empty() || 8 < s.len() || 1 < s.len() && s[0] == b'0' {
+    if 8 < s.len() || !lean(s) {
         return None;
     }
     let mut v: u32 = 0;

@@ -1,43 +1,13 @@
 use Prim.Native.Nat.{◌+◌, ◌*◌, ◌≤◌, ◌<◌}
 use lib.Dec.{lit<}
-use mathlib.Core.Path.{◌≡◌, refl, ap, sym, ◌∙◌}
-use mathlib.Core.Bool.{not}
-use borrow.Author.Tests.{ltb-true}
+use mathlib.Core.Path.{◌≡◌, sym, ◌∙◌}
 use native.Mathlib.Omega.{arith}
 use lib.ListN.{length, get_or}
 use Rattle.std.proofs.Common.{rules, Some, None}
 use Rattle.text.specs.Hex.{digit_of}
 use Rattle.text.proofs.HexLaws.{digit_some, digit_none, digits_more, digits_stop, digits_end, number_more, number_end, bound_more, bound_fits}
-use Rattle.text.proofs.HexLaws.{value_long, value_lean, value_digits, value_good, lean_empty, lean_one, lean_more}
+use Rattle.text.proofs.HexLaws.{value_digits, value_good}
 use Rattle.text.proofs.read_value.Goals as goal
-use Rattle.text.proofs.read_value.Goals.{then-is_empty-via-then-is_empty, then-is_empty-via-else-is_empty+then-s-gt8, then-is_empty-via-else-is_empty+else-s-gt8+then-s-eq48, then-s-gt1, else-s-gt1}
-
-pub returns-then-is_empty : goal.returns-then-is_empty
-returns-then-is_empty c =
-    let l = c.args.s.now in
-    elim c.then-is_empty.branch [
-      | then-is_empty-via-then-is_empty w ↦ value_lean l (lean_empty l (search rules))
-      | then-is_empty-via-else-is_empty+then-s-gt8 w ↦ value_long l w.if-s-gt8.true
-      | then-is_empty-via-else-is_empty+else-s-gt8+then-s-eq48 w ↦
-          elim w.if-s-gt1.branch [
-            | then-s-gt1 x ↦ value_lean l (lean_more l x.if-s-gt1.true ∙ ap not (sym x.value-is ∙ w.if-s-eq48.true))
-            | else-s-gt1 x ↦ absurd (omega (arith, ltb-true 1 (length l) (sym x.value-is ∙ w.if-s-eq48.true)))
-          ]
-    ]
-
-pub loop-x-init : goal.loop-x-init
-loop-x-init c =
-    let l = c.args.s.now in
-    let h : 0 < length l = search rules in (
-      omega arith,
-      elim c.if-s-gt1.branch [
-        | then-s-gt1 w ↦ lean_more l w.if-s-gt1.true ∙ ap not (sym w.value-is ∙ c.if-s-eq48.false)
-        | else-s-gt1 w ↦ lean_one l (omega arith)
-      ],
-      lit< tt,
-      refl,
-      refl,
-    )
 
 pub returns-in_err-v : goal.returns-in_err-v
 returns-in_err-v c =
