@@ -6,7 +6,6 @@ ghost use Rattle.std.specs.Prelude.{IfOk};
 ghost use Rattle.std.specs.Counts.{IsPrefixLen};
 
 use input::Got;
-use report::Told;
 use std::array;
 use std::io::Read;
 
@@ -30,7 +29,7 @@ fn print_report(
 ) {
     let mut track: [u32; 9216] = array::repeat(0); // track_length
     let mut out: [u8; 262272] = array::repeat(0); // report_limit
-    if let Told::Report(size) = report::write_report(image, n, list, k, &mut track, &mut out) {
+    if let Ok(size) = report::write_report(image, n, list, k, &mut track, &mut out) {
         output::write_or_fail(rt, &out[..size], "replay: the report cannot be written");
     }
 }
