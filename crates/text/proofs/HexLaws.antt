@@ -11,18 +11,27 @@ use mathlib.Core.Logic.{◌⊎◌, inl, inr, ⊎_elim}
 use lib.ListN.{length, drop, get_or, drop_of_length-le}
 use lib.Dec.{ltb, leb, lit<}
 use lib.Seq.{drop-cons}
-use borrow.Author.Tests.{eq-eqb, ne_eqb, eqb-false, lt-ltb, le-ltb, le-leb, lt-leb, ltb-true, leb-true, not-true}
-use Rattle.text.specs.declared.Value.TheVariants.{Number, Misspelled}
+use borrow.Author.Tests.{ne_eqb, eqb-false, lt-ltb, le-ltb, le-leb, lt-leb, ltb-true, leb-true, leb-false, not-true}
+use Rattle.std.specs.Prelude.{Some, None}
 use Rattle.text.specs.Split.{has}
-use Rattle.text.specs.Hex.{between, digit, digits, glyph, number, lean, spelled, value_of, spell, hex_of}
+use Rattle.text.specs.Hex.{digit, digit_of, digits, glyph, number, lean, spelled, value_of, spell, hex_of}
 
--- the low end of a range
-pub between_low : (low high x : ℕ) → between low high x ≡ true → low ≤ x
-between_low low high x h = go (leb low x) refl h
+-- a digit that is read, and a byte that is none
+pub digit_some : (x d : ℕ) → Some d ≡ digit_of x → (digit x < 16) × (d ≡ digit x)
+unfolding digit_of
+digit_some x d h = go (ltb (digit x) 16) refl h
   where
-    go : (t : Bool) → leb low x ≡ t → cond t (leb x high) false ≡ true → low ≤ x
-    go true e k = leb-true low x e
-    go false e k = absurd (true≢false (sym k))
+    go : (t : Bool) → ltb (digit x) 16 ≡ t → Some d ≡ cond t (Some (digit x)) None → (digit x < 16) × (d ≡ digit x)
+    go true e k = (ltb-true _ _ e, cc)
+    go false e k = let z : ◌≡◌ {A = ℕ} 0 1 = cc in absurd (omega arith)
+
+pub digit_none : (x : ℕ) → None ≡ digit_of x → 15 < digit x
+unfolding digit_of
+digit_none x h = go (ltb (digit x) 16) refl h
+  where
+    go : (t : Bool) → ltb (digit x) 16 ≡ t → None ≡ cond t (Some (digit x)) None → 15 < digit x
+    go true e k = let z : ◌≡◌ {A = ℕ} 0 1 = cc in absurd (omega arith)
+    go false e k = omega (arith, leb-false (suc (digit x)) 16 e)
 
 -- one turn of the reader
 module _ (l : List ℕ) (i : ℕ) (h : i < length l) where
@@ -54,53 +63,30 @@ pub bound_fits : (v i : ℕ) → v < 16 ^ i → i ≤ 8 → v < 2 ^ 32
 bound_fits v i h k = omega (arith, pow-le-pow_right {n = 16} (lit< tt) k)
 
 -- the cases of a value
-pub value_long : (s : List ℕ) → 8 < length s → Misspelled ≡ value_of s
+pub value_long : (s : List ℕ) → 8 < length s → None ≡ value_of s
 unfolding value_of spelled
 value_long s h = rw (lt-leb _ _ h)
 
-pub value_lean : (s : List ℕ) → lean s ≡ false → Misspelled ≡ value_of s
+pub value_lean : (s : List ℕ) → lean s ≡ false → None ≡ value_of s
 unfolding value_of spelled
 value_lean s h = rw h (go (leb (length s) 8))
   where
-    go : (t : Bool) → Misspelled ≡ cond (cond t false false) (Number (number 0 s)) Misspelled
+    go : (t : Bool) → None ≡ cond (cond t false false) (Some (number 0 s)) None
     go true = refl
     go false = refl
 
-pub value_digits : (s : List ℕ) → digits s ≡ false → Misspelled ≡ value_of s
+pub value_digits : (s : List ℕ) → digits s ≡ false → None ≡ value_of s
 unfolding value_of spelled
 value_digits s h = rw h (go (leb (length s) 8) (lean s))
   where
-    go : (t u : Bool) → Misspelled ≡ cond (cond t (cond u false false) false) (Number (number 0 s)) Misspelled
+    go : (t u : Bool) → None ≡ cond (cond t (cond u false false) false) (Some (number 0 s)) None
     go true true = refl
     go true false = refl
     go false u = refl
 
-pub value_good : (s : List ℕ) → length s ≤ 8 → lean s ≡ true → digits s ≡ true → Number (number 0 s) ≡ value_of s
+pub value_good : (s : List ℕ) → length s ≤ 8 → lean s ≡ true → digits s ≡ true → Some (number 0 s) ≡ value_of s
 unfolding value_of spelled
 value_good s h k d = rw (le-leb _ _ h, k, d)
-
-pub lean_empty : (s : List ℕ) → length s ≡ 0 → lean s ≡ false
-unfolding lean
-lean_empty [] h = refl
-lean_empty (x ∷ xs) h = absurd (omega arith)
-
-pub lean_one : (s : List ℕ) → length s ≡ 1 → lean s ≡ true
-unfolding lean
-lean_one [] h = absurd (omega arith)
-lean_one (x ∷ []) h = refl
-lean_one (x ∷ y ∷ ys) h = absurd (omega arith)
-
-pub lean_zero : (s : List ℕ) → 1 < length s → get_or s 0 0 ≡ 48 → lean s ≡ false
-unfolding lean
-lean_zero [] h e = absurd (omega arith)
-lean_zero (x ∷ []) h e = absurd (omega arith)
-lean_zero (x ∷ y ∷ ys) h e = rw (eq-eqb _ _ e)
-
-pub lean_other : (s : List ℕ) → 1 < length s → (get_or s 0 0 ≡ 48 → ⊥) → lean s ≡ true
-unfolding lean
-lean_other [] h e = absurd (omega arith)
-lean_other (x ∷ []) h e = absurd (omega arith)
-lean_other (x ∷ y ∷ ys) h e = rw (ne_eqb _ _ e)
 
 -- a test and what it says
 below : (a b : ℕ) → (a < b) ⊎ (b ≤ a)
@@ -184,11 +170,11 @@ spelled_parts s h = go (leb (length s) 8) refl (lean s) refl h
     go false e u f k = absurd (true≢false (sym k))
 
 -- a value that is read is spelled as the printer spells it
-pub value_text : (s : List ℕ) (n : ℕ) → value_of s ≡ Number n → s ≡ hex_of n
+pub value_text : (s : List ℕ) (n : ℕ) → value_of s ≡ Some n → s ≡ hex_of n
 unfolding value_of
 value_text s n h = go (spelled s) refl h
   where
-    go : (t : Bool) → spelled s ≡ t → cond t (Number (number 0 s)) Misspelled ≡ Number n → s ≡ hex_of n
+    go : (t : Bool) → spelled s ≡ t → cond t (Some (number 0 s)) None ≡ Some n → s ≡ hex_of n
     go true e k =
         let p = spelled_parts s e in
         let q : number 0 s ≡ n = cc in
@@ -204,11 +190,11 @@ number_bound v k (x ∷ xs) h d =
     let e : k + 1 + length xs ≡ k + suc (length xs) = omega arith in
     subst (λ (n : ℕ). number (v * 16 + digit x) xs < 16 ^ n) e (number_bound (v * 16 + digit x) (k + 1) xs (bound_more v (digit x) k h q.0) q.1)
 
-pub value_bound : (s : List ℕ) (n : ℕ) → value_of s ≡ Number n → n < 2 ^ 32
+pub value_bound : (s : List ℕ) (n : ℕ) → value_of s ≡ Some n → n < 2 ^ 32
 unfolding value_of
 value_bound s n h = go (spelled s) refl h
   where
-    go : (t : Bool) → spelled s ≡ t → cond t (Number (number 0 s)) Misspelled ≡ Number n → n < 2 ^ 32
+    go : (t : Bool) → spelled s ≡ t → cond t (Some (number 0 s)) None ≡ Some n → n < 2 ^ 32
     go true e k =
         let p = spelled_parts s e in
         let q : number 0 s ≡ n = cc in
@@ -281,11 +267,11 @@ hex_spelled n h = (omega (arith, length_spell 8 n []), ⊎_elim (λ p. zero_lean
     digits_nil : digits [] ≡ true
     digits_nil = unfold digits in refl
 
-pub text_value : (n : ℕ) → n < 2 ^ 32 → value_of (hex_of n) ≡ Number n
+pub text_value : (n : ℕ) → n < 2 ^ 32 → value_of (hex_of n) ≡ Some n
 unfolding hex_of
 text_value n h =
     let p = hex_spelled n h in
-    sym (value_good (hex_of n) p.0 p.1 p.2) ∙ ap Number (number_spell 8 n [] h ∙ unfold number in refl)
+    sym (value_good (hex_of n) p.0 p.1 p.2) ∙ ap Some (number_spell 8 n [] h ∙ unfold number in refl)
 
 -- a text of digits holds no byte that is no digit
 pub digits_lack : (b : ℕ) (s : List ℕ) → digit b ≡ 16 → digits s ≡ true → has b s ≡ false

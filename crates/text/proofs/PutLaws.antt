@@ -1,19 +1,24 @@
 -- Laws of putting text into a buffer. Assumes nothing.
-use Prim.Native.Nat.{ℕ, ◌+◌, ◌-◌, ◌≤◌}
+use Prim.Native.Nat.{ℕ, ◌+◌, ◌≤◌}
 use mathlib.Core.Path.{◌≡◌, refl, ap, ap₂, sym, ◌∙◌}
 use mathlib.Core.List.{List, [], ◌++◌, append_assoc}
-use mathlib.Core.Bool.{Bool, true, false}
+use mathlib.Core.Bool.{true, false}
 use native.Mathlib.Omega.{arith}
-use lib.Dec.{leb}
 use lib.ListN.{length, take, drop, length-append, length-drop}
 use lib.Seq.{paste, paste-zero, take-length, take_at, drop-append-add, drop-drop, length-take-le}
-use borrow.Author.Tests.{le-leb, lt-leb, leb-true, leb-false}
+use borrow.Author.Tests.{le-leb, leb-true}
+use borrow.Rule.Slice.PartMut.{put_mid}
+use Rattle.std.proofs.lemmas.Slice.{put_mid-paste}
 use Rattle.text.specs.Put.{over, has_room, wrote, place_after}
 
 -- a whole copy is what `over` says
 pub over_paste : (d : List ℕ) (at : ℕ) (s : List ℕ) → paste d at s (length s) ≡ over d at s
 unfolding over
 over_paste d at s = rw take-length
+
+-- a part of the buffer that was written is what `over` says
+pub put_over : (at k : ℕ) (d new s : List ℕ) → new ≡ s → k ≡ length s → put_mid at k d new ≡ over d at s
+put_over at k d new s e h = put_mid-paste at k d new s (length s) e (sym h) refl ∙ over_paste d at s
 
 module _ (d : List ℕ) (at : ℕ) (s : List ℕ) (room : at + length s ≤ length d) where
   front : length (take at d ++ s) ≡ at + length s
@@ -82,6 +87,12 @@ module _ (room : ℕ) (d : List ℕ) (at : ℕ) (s : List ℕ) where
   unfolding place_after wrote
   wrote_no h = rw h (refl, refl)
 
+-- a text that was put where there was room for more
+pub put_fits : (room : ℕ) (d : List ℕ) (at : ℕ) (s : List ℕ) → has_room room d at ≡ true → length s ≤ room →
+    (place_after (length s) d at s ≡ place_after room d at s) × (wrote (length s) d at s ≡ wrote room d at s)
+unfolding place_after wrote has_room
+put_fits room d at s h k = rw (h, le-leb (at + length s) (length d) (omega (arith, leb-true (at + room) (length d) h))) (refl, refl)
+
 -- nothing put changes nothing
 pub over_none : (d : List ℕ) (at : ℕ) → at ≤ length d → over d at [] ≡ d
 unfolding over
@@ -96,11 +107,3 @@ pub put_more : {d s out out' : List ℕ} {at p p' m : ℕ} (k : ℕ) (t : List �
     (p' ≡ place_after k out p t) × (out' ≡ wrote k out p t) → Written d at (s ++ t) out' p' (m + n)
 put_more {out = out} {out' = out'} {p = p} {p' = p'} k t n w a h r e =
     written_more t n w h r (wrote_fits k out p t p' out' (omega (arith, w.place, w.most, w.long)) e)
-
--- the test of the room left, as the code makes it
-pub room_test : (at room n : ℕ) → at ≤ n → leb room (n - at) ≡ leb (at + room) n
-room_test at room n h = go (leb room (n - at)) refl
-  where
-    go : (t : Bool) → leb room (n - at) ≡ t → t ≡ leb (at + room) n
-    go true e = sym (le-leb (at + room) n (omega (arith, leb-true room (n - at) e)))
-    go false e = sym (lt-leb (at + room) n (omega (arith, leb-false room (n - at) e)))

@@ -3,27 +3,18 @@ use Prim.Native.Nat.{ℕ, suc, ◌+◌, ◌-◌, ◌≤◌, ◌<◌}
 use mathlib.Core.Path.{◌≡◌, refl, ap, ap₂, sym, ◌∙◌}
 use mathlib.Core.Bool.{Bool, true, false, cond, true≢false}
 use mathlib.Core.List.{List, [], ◌∷◌, ◌++◌}
-use native.Mathlib.Numerals.{add-one, one-add}
+use native.Mathlib.Numerals.{add-one}
 use native.Mathlib.Omega.{arith}
-use lib.ListN.{length, take, drop, get_or, drop_of_length-le, length-drop}
+use lib.ListN.{length, take, drop, drop_of_length-le, length-drop}
 use lib.Dec.{eqb, ltb, leb-suc-suc}
-use lib.Seq.{drop-cons, take_all}
-use borrow.Author.Tests.{eq-eqb, ne_eqb, eqb-true, lt-ltb, le-ltb}
+use lib.Seq.{take_all}
+use borrow.Author.Tests.{eq-eqb, eqb-true, lt-ltb, le-ltb, leb-false}
+use Rattle.std.proofs.Common.{Option, Some, None, nat_eq, ◌&&◌, ◌||◌}
+use Rattle.std.specs.Option.{unwrap_or}
+use Rattle.std.specs.List.{position, position_or_len, list_any}
+use Rattle.std.specs.Cmp.Lexicographic.{pointwise}
+use Rattle.std.proofs.lemmas.List.Recursion.{is_position_or_len}
 use Rattle.text.specs.Split.{has, until, past, same}
-
--- one turn of the search
-module _ (b : ℕ) (l : List ℕ) (i : ℕ) (h : i < length l) where
-  pub until_miss : (get_or l i 0 ≡ b → ⊥) → length (until b (drop i l)) ≡ 1 + length (until b (drop (i + 1) l))
-  unfolding until
-  until_miss ne = rw (add-one, drop-cons l i 0 h, ne_eqb _ _ ne, one-add)
-
-  pub until_hit : get_or l i 0 ≡ b → length (until b (drop i l)) ≡ 0
-  unfolding until
-  until_hit e = rw (drop-cons l i 0 h, eq-eqb _ _ e)
-
-pub until_end : (b : ℕ) (l : List ℕ) (i : ℕ) → length l ≤ i → length (until b (drop i l)) ≡ 0
-unfolding until
-until_end b l i h = rw (drop_of_length-le l h)
 
 -- the place that a search finds, and the three parts there
 pub has_place : (b : ℕ) (l : List ℕ) → ltb (length (until b l)) (length l) ≡ has b l
@@ -82,20 +73,6 @@ past_part_end b l n e h =
     ∙ drop_of_length-le l h
     ∙ sym (drop_of_length-le l {i = suc (length (until b l))} (omega arith))
     ∙ past_drop b l
-
--- one turn of the comparison
-module _ (a b : List ℕ) (i : ℕ) (ha : i < length a) (hb : i < length b) where
-  pub same_more : get_or a i 0 ≡ get_or b i 0 → same (drop i a) (drop i b) ≡ same (drop (i + 1) a) (drop (i + 1) b)
-  unfolding same
-  same_more e = rw (add-one, drop-cons a i 0 ha, drop-cons b i 0 hb, eq-eqb _ _ e)
-
-  pub same_stop : (get_or a i 0 ≡ get_or b i 0 → ⊥) → same (drop i a) (drop i b) ≡ false
-  unfolding same
-  same_stop ne = rw (drop-cons a i 0 ha, drop-cons b i 0 hb, ne_eqb _ _ ne)
-
-pub same_end : (a b : List ℕ) (i : ℕ) → length a ≤ i → length b ≤ i → same (drop i a) (drop i b) ≡ true
-unfolding same
-same_end a b i ha hb = rw (drop_of_length-le a ha, drop_of_length-le b hb)
 
 pub same_lengths : (a b : List ℕ) → (length a ≡ length b → ⊥) → same a b ≡ false
 unfolding same
@@ -179,3 +156,61 @@ past_none b (x ∷ xs) h = go (past_none b xs) (eqb x b) h
     go : (has b xs ≡ false → past b xs ≡ []) → (t : Bool) → cond t true (has b xs) ≡ false → cond t xs (past b xs) ≡ []
     go ih true e = absurd (true≢false e)
     go ih false e = ih e
+
+-- the library's searches, in these words
+place_is : (b : ℕ) (l : List ℕ) → position (λ x. nat_eq x b) l ≡ cond (has b l) (Some (length (until b l))) None
+unfolding until
+place_is b l =
+    ap (λ (n : ℕ). cond (ltb n (length l)) (Some n) None) (sym place)
+    ∙ ap (λ (t : Bool). cond t (Some (length (until b l))) None) (has_place b l)
+  where
+    turn : (x : ℕ) (xs : List ℕ) (t : Bool) → length (cond t [] (x ∷ until b xs)) ≡ cond t 0 (1 + length (until b xs))
+    turn x xs true = refl
+    turn x xs false = omega arith
+
+    place : length (until b l) ≡ position_or_len (λ x. nat_eq x b) l
+    place = is_position_or_len (λ (xs : List ℕ). length (until b xs)) (λ x. nat_eq x b) refl (λ x xs. turn x xs (eqb x b)) l
+
+pub find_position : (b : ℕ) (l : List ℕ) (o : Option ℕ) (n : ℕ) → o ≡ position (λ x. nat_eq x b) l → n ≡ unwrap_or o (length l) → n ≡ length (until b l)
+find_position b l o n e f = f ∙ ap (λ (q : Option ℕ). unwrap_or q (length l)) (e ∙ place_is b l) ∙ go (has b l) refl
+  where
+    go : (t : Bool) → has b l ≡ t → unwrap_or (cond t (Some (length (until b l))) None) (length l) ≡ length (until b l)
+    go true h = refl
+    go false h = omega (arith, until_length b l, leb-false (suc (length (until b l))) (length l) (has_place b l ∙ h))
+
+pub cut_none : (b : ℕ) (l : List ℕ) → None ≡ position (λ x. nat_eq x b) l → has b l ≡ false
+cut_none b l e = go (has b l) (e ∙ place_is b l)
+  where
+    go : (t : Bool) → None ≡ cond t (Some (length (until b l))) None → t ≡ false
+    go true h = cc
+    go false h = refl
+
+pub cut_some : (b : ℕ) (l : List ℕ) (n : ℕ) → Some n ≡ position (λ x. nat_eq x b) l → (has b l ≡ true) × (take n l ≡ until b l) × (take (length l - (n + 1)) (drop (n + 1) l) ≡ past b l)
+cut_some b l n e = go (has b l) refl (e ∙ place_is b l)
+  where
+    go : (t : Bool) → has b l ≡ t → Some n ≡ cond t (Some (length (until b l))) None → (t ≡ true) × (take n l ≡ until b l) × (take (length l - (n + 1)) (drop (n + 1) l) ≡ past b l)
+    go true h k = let m : n ≡ length (until b l) = cc in (refl, found_before b l n m, past_part b l n m)
+    go false h k = let z : ◌≡◌ {A = ℕ} 0 1 = cc in absurd (omega arith)
+
+has_list_any : (b : ℕ) (l : List ℕ) → list_any (λ x. nat_eq x b) l ≡ has b l
+unfolding has
+has_list_any b [] = refl
+has_list_any b (x ∷ xs) = go (has_list_any b xs) (eqb x b)
+  where
+    go : list_any (λ y. nat_eq y b) xs ≡ has b xs → (t : Bool) → (t || list_any (λ y. nat_eq y b) xs) ≡ cond t true (has b xs)
+    go ih true = refl
+    go ih false = ih
+
+pub has_any : (b : ℕ) (l : List ℕ) (r : Bool) → r ≡ list_any (λ x. nat_eq x b) l → r ≡ has b l
+has_any b l r e = e ∙ has_list_any b l
+
+pub same_pointwise : (a b : List ℕ) → pointwise nat_eq a b ≡ same a b
+unfolding same
+same_pointwise [] [] = refl
+same_pointwise [] (y ∷ ys) = refl
+same_pointwise (x ∷ xs) [] = refl
+same_pointwise (x ∷ xs) (y ∷ ys) = go (same_pointwise xs ys) (eqb x y)
+  where
+    go : pointwise nat_eq xs ys ≡ same xs ys → (t : Bool) → (t && pointwise nat_eq xs ys) ≡ cond t (same xs ys) false
+    go ih true = ih
+    go ih false = refl

@@ -2,45 +2,48 @@
 // is total: what does not parse, and what does not fit, is an answer.
 #![tactic(auto)]
 
-ghost use Rattle.std.specs.Prelude.{◌≡◌, ◌+◌, ◌<◌, ◌≤◌, length};
+ghost use Rattle.std.specs.Prelude.{◌≡◌, ◌<◌, false, length, position, ◌==◌, true, MatchOption};
 ghost use Rattle.text.specs.Split.{has, until, past, same};
-ghost use Rattle.text.specs.Hex.{value_of, between, digit, glyph, hex_of};
-ghost use Rattle.text.specs.Put.{over, has_room, wrote, place_after};
+ghost use Rattle.text.specs.Hex.{value_of, lean, digit_of, glyph, hex_of};
+ghost use Rattle.text.specs.Put.{has_room, wrote, place_after};
 
-// What a value of a list is: a number, or misspelled.
-#[derive(Clone, Copy)]
-pub enum Value {
-    Number(u32),
-    Misspelled,
+// The place of the first b.
+fn first(s: &[u8], b: u8) -> Option<usize>
+    ensures { result ≡ position (λ x. x == b) s.now }
+{
+    s.iter().position(|x| *x == b)
 }
 
 // The place of the first b, or the length where there is none.
+#[tactic(auto, using(crate::proofs::SplitLaws::find_position))]
 pub fn find(s: &[u8], b: u8) -> usize
     ensures { result ≡ length (until b s.now) }
 {
-    let mut i = 0;
-    while i < s.len() {
-        if s[i] == b {
-            return i;
-        }
-        i += 1;
-    }
-    i
+    first(s, b).unwrap_or(s.len())
+}
+
+// What stands before the first b, and what stands after it.
+#[tactic(auto, using(crate::proofs::SplitLaws::cut_none, crate::proofs::SplitLaws::cut_some))]
+pub fn cut(s: &[u8], b: u8) -> Option<(&[u8], &[u8])>
+    ensures { MatchOption result (has b s.now ≡ false) (λ p. (has b s.now ≡ true) × (p.0.now ≡ until b s.now) × (p.1.now ≡ past b s.now)) }
+{
+    let n = first(s, b)?;
+    Some((&s[..n], &s[n + 1..]))
 }
 
 // Whether b stands in s.
+#[tactic(auto, using(crate::proofs::SplitLaws::has_any))]
 pub fn has(s: &[u8], b: u8) -> bool
     ensures { result ≡ has b s.now }
 {
-    find(s, b) < s.len()
+    s.contains(&b)
 }
 
 // The part before the first b.
 pub fn until(s: &[u8], b: u8) -> &[u8]
     ensures { result.now ≡ until b s.now }
 {
-    let n = find(s, b);
-    &s[..n]
+    &s[..find(s, b)]
 }
 
 // The part after the first b.
@@ -52,107 +55,53 @@ pub fn past(s: &[u8], b: u8) -> &[u8]
 }
 
 // Whether two slices hold the same bytes.
+#[tactic(auto, using(crate::proofs::SplitLaws::same_pointwise))]
 pub fn same(a: &[u8], b: &[u8]) -> bool
     ensures { result ≡ same a.now b.now }
 {
-    if a.len() != b.len() {
-        return false;
-    }
-    let mut i = 0;
-    while i < a.len() {
-        if a[i] != b[i] {
-            return false;
-        }
-        i += 1;
-    }
-    true
+    a == b
 }
 
-// Whether x is one of low to high.
-fn between(low: u8, high: u8, x: u8) -> bool
-    ensures { result ≡ between low high x }
+// What a byte is worth as a hexadecimal digit.
+#[tactic(auto, unfolding(crate::specs::Hex::digit_of, crate::specs::Hex::digit))]
+pub fn digit(x: u8) -> Option<u32>
+    ensures { result ≡ digit_of x }
 {
-    if low <= x {
-        return x <= high;
+    match x {
+        b'0'..=b'9' => Some(x as u32 - 48),
+        b'a'..=b'f' => Some(x as u32 - 87),
+        _ => None,
     }
-    false
 }
 
-// What a byte is worth as a hexadecimal digit, or 16.
-pub fn digit(x: u8) -> u32
-    ensures { result ≡ digit x }
+// Whether a value has a digit, and no `0` in front of others.
+#[tactic(auto, unfolding(crate::specs::Hex::lean))]
+fn lean(s: &[u8]) -> bool
+    ensures { result ≡ lean s.now }
 {
-    if between(b'0', b'9', x) {
-        return x as u32 - 48;
+    match s {
+        [] | [b'0', _, ..] => false,
+        _ => true,
     }
-    if between(b'a', b'f', x) {
-        return x as u32 - 87;
-    }
-    16
 }
 
 // The number that a value spells.
-pub fn read_value(s: &[u8]) -> Value
+#[tactic(auto, using(crate::proofs::HexLaws::value_long, crate::proofs::HexLaws::value_lean))]
+pub fn read_value(s: &[u8]) -> Option<u32>
     ensures { result ≡ value_of s.now }
 {
-    if s.len() == 0 {
-        return Value::Misspelled;
-    }
-    if 8 < s.len() {
-        return Value::Misspelled;
-    }
-    if 1 < s.len() {
-        if s[0] == b'0' {
-            return Value::Misspelled;
-        }
+    if 8 < s.len() || !lean(s) {
+        return None;
     }
     let mut v: u32 = 0;
-    let mut i = 0;
-    while i < s.len() {
-        let d = digit(s[i]);
-        if 15 < d {
-            return Value::Misspelled;
-        }
-        v = v * 16 + d;
-        i += 1;
+    for x in s {
+        v = v * 16 + digit(*x)?;
     }
-    Value::Number(v)
-}
-
-// Whether `room` bytes are left in a buffer from place `at` on.
-pub fn has_room(out: &[u8], at: usize, room: usize) -> bool
-    ensures { result ≡ has_room room out.now at }
-{
-    if out.len() < at {
-        return false;
-    }
-    room <= out.len() - at
-}
-
-// Copies text into out from place `at` on, and returns the place after it.
-fn copy(out: &mut [u8], at: usize, text: &[u8]) -> usize
-    requires { at + length text.now ≤ length out.old }
-    ensures { (result ≡ at + length text.now) × (out.new ≡ over out.old at text.now) }
-{
-    let mut i = 0;
-    while i < text.len() {
-        out[at + i] = text[i];
-        i += 1;
-    }
-    at + i
-}
-
-// Puts text into out at place `at`, and returns the place after it. Where it does not fit, nothing is written and the place stays.
-pub fn put(out: &mut [u8], at: usize, text: &[u8]) -> usize
-    ensures { (result ≡ place_after (length text.now) out.old at text.now) × (out.new ≡ wrote (length text.now) out.old at text.now) }
-{
-    if has_room(out, at, text.len()) {
-        return copy(out, at, text);
-    }
-    at
+    Some(v)
 }
 
 // The byte of a digit below 16.
+#[tactic(auto, unfolding(crate::specs::Hex::glyph))]
 fn glyph(d: u32) -> u8
     requires { d < 16 }
     ensures { result ≡ glyph d }
@@ -160,30 +109,63 @@ fn glyph(d: u32) -> u8
     if d < 10 { 48 + d as u8 } else { 87 + d as u8 }
 }
 
-// Copies n in hexadecimal.
-fn copy_hex(out: &mut [u8], at: usize, n: u32) -> usize
-    requires { at + 8 ≤ length out.old }
-    ensures { (result ≡ at + length (hex_of n)) × (out.new ≡ over out.old at (hex_of n)) }
-{
-    let mut buf = [0u8; 8];
-    let mut i: usize = 8;
-    let mut v = n;
-    while 15 < v {
-        i -= 1;
-        buf[i] = glyph(v % 16);
-        v /= 16;
-    }
-    i -= 1;
-    buf[i] = glyph(v);
-    copy(out, at, &buf[i..])
+// A lent buffer, and the place in it that is written next.
+#[derive(Drop)]
+pub struct Writer<'a> {
+    pub out: &'a mut [u8],
+    pub at: usize,
 }
 
-// Puts n in hexadecimal, where 8 bytes are left for it.
-pub fn put_hex(out: &mut [u8], at: usize, n: u32) -> usize
-    ensures { (result ≡ place_after 8 out.old at (hex_of n)) × (out.new ≡ wrote 8 out.old at (hex_of n)) }
-{
-    if has_room(out, at, 8) {
-        return copy_hex(out, at, n);
+impl<'a> Writer<'a> {
+    // A writer at the front of a buffer.
+    pub fn new(out: &'a mut [u8]) -> Writer<'a>
+        ensures same_buffer { result.out.ghost_name ≡ out.entry.ghost_name }
+        ensures holds { result.out.now ≡ out.old }
+        ensures place { result.at ≡ 0 }
+    {
+        Writer { out, at: 0 }
     }
-    at
+
+    // Whether `room` bytes are left.
+    #[tactic(auto, unfolding(crate::specs::Put::has_room))]
+    pub fn has_room(&self, room: usize) -> bool
+        ensures { result ≡ has_room room self.now.out.now self.now.at }
+    {
+        self.at <= self.out.len() && room <= self.out.len() - self.at
+    }
+
+    // Puts text, and steps behind it. Where it does not fit, nothing is written and the place stays.
+    #[tactic(auto, unfolding(crate::specs::Put::has_room, crate::specs::Put::wrote, crate::specs::Put::place_after), using(crate::proofs::PutLaws::put_over))]
+    pub fn put(&mut self, text: &[u8])
+        ensures same_buffer { self.new.out.ghost_name ≡ self.old.out.ghost_name }
+        ensures place { self.new.at ≡ place_after (length text.now) self.old.out.now self.old.at text.now }
+        ensures holds { self.new.out.now ≡ wrote (length text.now) self.old.out.now self.old.at text.now }
+    {
+        if self.has_room(text.len()) {
+            let end = self.at + text.len();
+            self.out[self.at..end].copy_from_slice(text);
+            self.at = end;
+        }
+    }
+
+    // Puts n in hexadecimal, where 8 bytes are left for it.
+    #[tactic(auto, unfolding(crate::specs::Put::wrote, crate::specs::Put::place_after))]
+    pub fn put_hex(&mut self, n: u32)
+        ensures same_buffer { self.new.out.ghost_name ≡ self.old.out.ghost_name }
+        ensures place { self.new.at ≡ place_after 8 self.old.out.now self.old.at (hex_of n) }
+        ensures holds { self.new.out.now ≡ wrote 8 self.old.out.now self.old.at (hex_of n) }
+    {
+        if self.has_room(8) {
+            let mut buf = [0u8; 8];
+            let mut i = 7;
+            let mut v = n;
+            while 15 < v {
+                buf[i] = glyph(v % 16);
+                v /= 16;
+                i -= 1;
+            }
+            buf[i] = glyph(v);
+            self.put(&buf[i..]);
+        }
+    }
 }

@@ -7,9 +7,9 @@ use Rattle.text.proofs.until.Goals as goal
 pub slice_bounds-result-end : goal.slice_bounds-result-end
 slice_bounds-result-end c =
     let a = c.args in
-    sym (length-take-le c.find-n.result a.s.now (omega (arith, until_length a.b a.s.now)))
+    sym (length-take-le c.find.result a.s.now (omega (arith, until_length a.b a.s.now)))
 
 pub returns : goal.returns
 returns c =
     let a = c.args in
-    rw c.find-n.ensures (until_take a.b a.s.now)
+    rw c.find.ensures (until_take a.b a.s.now)
