@@ -30,14 +30,13 @@ fn print_lines(rt: &(impl Print + Eprint + AllocGlobal), image: &[u8], n: usize)
 
 fn main(rt: HostRuntime) {
     let mut image = image_buffer();
-    let got = input::read_image(&rt, &mut image);
-    if !got.whole {
-        output::fail(
+    let n = match input::read_image(&rt, &mut image) {
+        Ok(got) => got.count,
+        Err(got) => return output::fail(
             &rt,
             "to_lines: image.bin was not read to its end",
             got.error,
-        );
-        return;
-    }
-    print_lines(&rt, &image, got.count);
+        ),
+    };
+    print_lines(&rt, &image, n);
 }
