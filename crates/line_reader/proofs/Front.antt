@@ -21,8 +21,8 @@ use Rattle.line_reader.specs.declared.Flaw.{Flaw}
 use Rattle.line_reader.specs.declared.Flaw.TheVariants.{Form, Order}
 use Rattle.line_reader.specs.declared.Reader.{Reader}
 use Rattle.std.specs.declared.result.Result.{Result}
-use Rattle.line_reader.specs.declared.FinishError.{FinishError}
-use Rattle.line_reader.specs.declared.FinishError.TheVariants.{ShortBuffer, WrongBuffer}
+use Rattle.line_reader.specs.declared.NoOutput.{NoOutput}
+use Rattle.line_reader.specs.declared.NoOutput.TheVariants.{ShortBuffer, WrongBuffer}
 use Rattle.line_reader.specs.Reading.{complete, last_test, line_after, by_flaw, ending, EndCall, end_call, finished, finished_file}
 
 -- the front of m is the whole output, and no longer than m, or there is room for the output
@@ -68,11 +68,11 @@ told_fits r m n h = go (ltb (length m) 18) refl
 
     go : (t : Bool) → ltb (length m) 18 ≡ t → n ≤ length m
     go true e =
-        let q : ◌≡◌ {A = Result ℕ FinishError} (Err ShortBuffer) (Ok n) = sym (ap (λ (y : EndCall). y.told) (short e)) ∙ h in
+        let q : ◌≡◌ {A = Result ℕ NoOutput} (Err ShortBuffer) (Ok n) = sym (ap (λ (y : EndCall). y.told) (short e)) ∙ h in
         let z : ◌≡◌ {A = ℕ} 0 1 = cc in absurd (omega arith)
     go false e =
         let f = front r m (ltb-false (length m) 18 e) in
-        let q : ◌≡◌ {A = Result ℕ FinishError} (Ok n) (Ok (length (output (ending r m)))) = sym h ∙ f.0 in
+        let q : ◌≡◌ {A = Result ℕ NoOutput} (Ok n) (Ok (length (output (ending r m)))) = sym h ∙ f.0 in
         let z : n ≡ length (output (ending r m)) = cc in
         omega (arith, f.2)
 

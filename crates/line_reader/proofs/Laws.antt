@@ -24,7 +24,7 @@ use Rattle.lines.specs.Settings.{image_limit}
 use Rattle.line_reader.specs.declared.Flaw.{Flaw}
 use Rattle.line_reader.specs.declared.Flaw.TheVariants.{Form, Order}
 use Rattle.line_reader.specs.declared.Reader.{Reader}
-use Rattle.line_reader.specs.declared.FinishError.TheVariants.{ShortBuffer, WrongBuffer}
+use Rattle.line_reader.specs.declared.NoOutput.TheVariants.{ShortBuffer, WrongBuffer}
 use Rattle.line_reader.specs.Reading.{State, turn, late_turn, accept, changed, so_far, one_more, with_byte, names_ended, word_ended, said, line_ended, byte_taken, is_decided, step, feed, line_after, complete, last_test, by_flaw, ending, EndCall, end_call, finished, finished_file}
 
 module _ (b : ℕ) (s : State) where

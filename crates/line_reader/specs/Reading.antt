@@ -13,8 +13,8 @@ use Rattle.line_reader.specs.declared.Flaw.{Flaw}
 use Rattle.line_reader.specs.declared.Flaw.TheVariants.{Form, Order}
 use Rattle.line_reader.specs.declared.Reader.{Reader}
 use Rattle.line_reader.specs.declared.Reading.{Reading}
-use Rattle.line_reader.specs.declared.FinishError.{FinishError}
-use Rattle.line_reader.specs.declared.FinishError.TheVariants.{ShortBuffer, WrongBuffer}
+use Rattle.line_reader.specs.declared.NoOutput.{NoOutput}
+use Rattle.line_reader.specs.declared.NoOutput.TheVariants.{ShortBuffer, WrongBuffer}
 
 -- the reader, the buffer of the line being read, and the image
 pub record State : Type 0 where
@@ -152,7 +152,7 @@ ending_by (Some (n, k)) r m = refusal n k
 
 -- what a call at the end of the input answers, and what it leaves in the image's buffer
 pub record EndCall : Type 0 where
-  pub told : Result ℕ FinishError
+  pub told : Result ℕ NoOutput
   pub image : List ℕ
 
 abbrev pub refusal_call : ℕ → ℕ → List ℕ → EndCall

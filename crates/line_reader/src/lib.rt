@@ -2,7 +2,7 @@
 // image. A line is judged when it ends; once one is turned back, no byte changes anything.
 #![tactic(auto)]
 
-ghost use Rattle.std.specs.Prelude.{◌≡◌, ◌≤◌, length, replicate, IsNone};
+ghost use Rattle.std.specs.Prelude.{◌≡◌, ◌≤◌, length, replicate, IfOk, IsNone};
 ghost use Rattle.text.specs.Put.{wrote, place_after};
 ghost use Rattle.lines.specs.Form.{line_of, pair_text, pair_room};
 ghost use Rattle.line_reader.specs.Reading.{SameBuffers, state_of, fresh, line_after, turned, accepted, so_far, with_byte, names_ended, word_ended, line_ended, step, feed, is_decided, complete, ending, ending_by, finished, finished_file};
@@ -28,10 +28,10 @@ pub struct Reader {
     pub zero: bool,
 }
 
-// Why the end of the input gives nothing: the image's buffer is too short for a refusal, or, at the end of a program's input, its length is not
+// Why the end of the input gives no output: the image's buffer is too short for a refusal, or, at the end of a program's input, its length is not
 // the limit.
 #[derive(Clone, Copy)]
-pub enum FinishError {
+pub enum NoOutput {
     ShortBuffer,
     WrongBuffer,
 }
@@ -114,12 +114,13 @@ impl Reader {
 
     #[tactic(auto, unfolding(crate::specs::Reading::finished))]
     // The end of the input: so many bytes of the image's buffer are now the whole output.
-    pub fn finish(self, image: &mut [u8]) -> Result<usize, FinishError>
+    pub fn finish(self, image: &mut [u8]) -> Result<usize, NoOutput>
         ensures told { result ≡ (finished self image.old).told }
         ensures image { image.new ≡ (finished self image.old).image }
+        ensures fits { IfOk result (λ size. size ≤ length image.new) }
     {
         if image.len() < 18 { // pair_room
-            return Err(FinishError::ShortBuffer);
+            return Err(NoOutput::ShortBuffer);
         }
         match self.refusal(image) {
             Some((line, number)) => Ok(refuse(image, line, number)),
@@ -129,12 +130,13 @@ impl Reader {
 
     #[tactic(auto, unfolding(crate::specs::Reading::finished_file))]
     // The same for the programs: the image's buffer has 32,768 bytes, and one of another length stays as it is.
-    pub fn finish_file(self, image: &mut [u8]) -> Result<usize, FinishError>
+    pub fn finish_file(self, image: &mut [u8]) -> Result<usize, NoOutput>
         ensures told { result ≡ (finished_file self image.old).told }
         ensures image { image.new ≡ (finished_file self image.old).image }
+        ensures fits { IfOk result (λ size. size ≤ length image.new) }
     {
         if image.len() != 32768 { // image_limit
-            return Err(FinishError::WrongBuffer);
+            return Err(NoOutput::WrongBuffer);
         }
         self.finish(image)
     }

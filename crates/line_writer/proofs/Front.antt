@@ -18,7 +18,7 @@ use Rattle.lines.specs.Settings.{image_limit, file_lines}
 use Rattle.lines.proofs.LineLaws.{pair_most}
 use Rattle.lines.proofs.Theorem.{fits_parts}
 use Rattle.std.specs.declared.result.Result.TheVariants.{Ok}
-use Rattle.line_writer.specs.declared.WriteError.TheVariants.{ShortBuffer, WrongCounts}
+use Rattle.line_writer.specs.declared.NoLines.TheVariants.{ShortBuffer, WrongCounts}
 use Rattle.line_writer.specs.Call.{room_for, LinesCall, in_front, left, called, Written, file_room, FileWritten}
 use Rattle.line_writer.proofs.Laws.{called_good}
 

@@ -16,7 +16,7 @@ use Rattle.lines.specs.Ways.{gives, refusal, length_fits, lines_text, text_of, l
 use Rattle.lines.proofs.LineLaws.{pair_most}
 use Rattle.lines.proofs.Theorem.{fits_parts}
 use Rattle.std.specs.declared.result.Result.TheVariants.{Ok}
-use Rattle.line_writer.specs.declared.WriteError.TheVariants.{ShortBuffer, WrongCounts}
+use Rattle.line_writer.specs.declared.NoLines.TheVariants.{ShortBuffer, WrongCounts}
 use Rattle.line_writer.specs.Call.{place_after_word, wrote_word, room_for, LinesCall, in_front, left, called}
 
 pub is_empty_lem : (l : List ℕ) → eqb (length l) 0 ≡ is_empty l

@@ -5,8 +5,8 @@ use Rattle.lines.specs.Form.{pair_text, pair_room}
 use Rattle.lines.specs.Words.{has_line}
 use Rattle.lines.specs.Ways.{length_fits, lines_of, output}
 use Rattle.lines.specs.Settings.{image_limit, file_lines}
-use Rattle.line_writer.specs.declared.WriteError.{WriteError}
-use Rattle.line_writer.specs.declared.WriteError.TheVariants.{ShortBuffer, WrongCounts}
+use Rattle.line_writer.specs.declared.NoLines.{NoLines}
+use Rattle.line_writer.specs.declared.NoLines.TheVariants.{ShortBuffer, WrongCounts}
 
 -- a word's line put into a buffer, if the word, in front of the rest of an image, has one: what the buffer holds, and the place after it
 unfoldable pub wrote_word : List ℕ → ℕ → ℕ → ℕ → List ℕ → List ℕ
@@ -21,7 +21,7 @@ room_for limit n = cond (length_fits limit n) (pair_room + pair_room * (n / 4)) 
 
 -- the answer, and what the buffer holds
 pub record LinesCall : Type 0 where
-  pub told : Result ℕ WriteError
+  pub told : Result ℕ NoLines
   pub out : List ℕ
 
 -- a text put in front of what a buffer held
@@ -29,7 +29,7 @@ abbrev pub in_front : List ℕ → List ℕ → LinesCall
 in_front s d = record { told = Ok (length s); out = over d 0 s }
 
 -- nothing written
-abbrev pub left : WriteError → List ℕ → LinesCall
+abbrev pub left : NoLines → List ℕ → LinesCall
 left e d = record { told = Err e; out = d }
 
 -- a call with an image buffer of which n bytes were read: more than the limit are refused, and so is a missing image, of which 0 bytes were read

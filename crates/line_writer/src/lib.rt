@@ -1,7 +1,7 @@
 // The lines of an image, put into a lent buffer; and a refusal.
 #![tactic(auto)]
 
-ghost use Rattle.std.specs.Prelude.{◌≡◌, ◌+◌, ◌*◌, ◌/◌, ◌≤◌, length};
+ghost use Rattle.std.specs.Prelude.{◌≡◌, ◌+◌, ◌*◌, ◌/◌, ◌≤◌, length, IfOk};
 ghost use Rattle.text.specs.Put.{over, wrote, place_after};
 ghost use Rattle.lines.specs.Form.{pair_text, pair_room};
 ghost use Rattle.lines.specs.Words.{has_line, words_from};
@@ -11,9 +11,9 @@ ghost use Rattle.line_writer.specs.Call.{place_after_word, wrote_word, called, r
 
 use text::Writer;
 
-// Why a call writes nothing.
+// Why a call gives no lines.
 #[derive(Clone, Copy)]
-pub enum WriteError {
+pub enum NoLines {
     ShortBuffer,
     WrongCounts,
 }
@@ -105,22 +105,26 @@ fn room_for(limit: usize, n: usize) -> usize
 
 // Writes the lines of an image buffer of which n bytes were read, or the refusal, and tells how long that is. An image that has more than `limit`
 // is refused.
-#[tactic(auto, unfolding(crate::specs::Call::called))]
-pub fn write_lines(limit: usize, image: &[u8], n: usize, out: &mut [u8]) -> Result<usize, WriteError>
-    ensures { (result ≡ (called limit image.now n out.old).told) × (out.new ≡ (called limit image.now n out.old).out) }
+#[tactic(auto, unfolding(crate::specs::Call::called), using(crate::proofs::Front::room))]
+pub fn write_lines(limit: usize, image: &[u8], n: usize, out: &mut [u8]) -> Result<usize, NoLines>
+    ensures told { result ≡ (called limit image.now n out.old).told }
+    ensures out { out.new ≡ (called limit image.now n out.old).out }
+    ensures fits { IfOk result (λ size. size ≤ length out.new) }
 {
-    let image = image.get(..n).ok_or(WriteError::WrongCounts)?;
+    let image = image.get(..n).ok_or(NoLines::WrongCounts)?;
     let mut w = Writer::new(out);
     if !w.has_room(room_for(limit, n)) {
-        return Err(WriteError::ShortBuffer);
+        return Err(NoLines::ShortBuffer);
     }
     put_output(&mut w, limit, image);
     Ok(w.at)
 }
 
 // The same for the programs: an image file that has more than 32,768 bytes is refused.
-pub fn write_file_lines(image: &[u8], n: usize, out: &mut [u8]) -> Result<usize, WriteError>
-    ensures { (result ≡ (called image_limit image.now n out.old).told) × (out.new ≡ (called image_limit image.now n out.old).out) }
+pub fn write_file_lines(image: &[u8], n: usize, out: &mut [u8]) -> Result<usize, NoLines>
+    ensures told { result ≡ (called image_limit image.now n out.old).told }
+    ensures out { out.new ≡ (called image_limit image.now n out.old).out }
+    ensures fits { IfOk result (λ size. size ≤ length out.new) }
 {
     write_lines(32768, image, n, out) // image_limit
 }
