@@ -9,7 +9,7 @@ use lib.ListN.{length, take, drop, length-append}
 use lib.Seq.{take_at, length-take-le}
 use borrow.Author.Tests.{le-leb, ltb-false}
 use Rattle.text.specs.Put.{over, has_room}
-use Rattle.text.proofs.PutLaws.{room_left}
+use Rattle.text.proofs.PutLaws.{length_over, room_left}
 use Rattle.names.specs.Names.{newline}
 use Rattle.lines.specs.Form.{line_names, pair_text}
 use Rattle.lines.specs.Words.{word_of, has_line, kept, words_from}
@@ -70,6 +70,12 @@ room limit m = go (length_fits limit (length m))
     go : (t : Bool) → length (output (cond t (gives (line_names ++ (newline ∷ lines_text (words_from 0 m)))) (refusal 0 19))) ≤ cond t (18 + 18 * (length m / 4)) 18
     go true = omega (arith, lines_most 0 m)
     go false = pair_most 0 19
+
+-- the output that was put where there is room lies in the buffer
+pub output_fits : (limit : ℕ) (m d : List ℕ) (at p : ℕ) (o : List ℕ) → at + room_for limit (length m) ≤ length d → p ≡ at + length (output (lines_of limit m)) → o ≡ over d at (output (lines_of limit m)) → p ≤ length o
+output_fits limit m d at p o h e f =
+    let fit = room limit m in
+    omega (arith, h, e, fit, ap length f, length_over d at (output (lines_of limit m)) (omega (arith, h, fit)))
 
 -- what a call tells is never longer than its buffer
 pub told_fits : (limit : ℕ) (image : List ℕ) (n : ℕ) (d : List ℕ) (size : ℕ) → (called limit image n d).told ≡ Ok size → size ≤ length d

@@ -82,6 +82,7 @@ fn put_output(w: &mut Writer, limit: usize, image: &[u8])
     ensures same_buffer { w.new.out.ghost_name ≡ w.old.out.ghost_name }
     ensures place { w.new.at ≡ w.old.at + length (output (lines_of limit image.now)) }
     ensures holds { w.new.out.now ≡ over w.old.out.now w.old.at (output (lines_of limit image.now)) }
+    ensures fits { w.new.at ≤ length w.new.out.now }
 {
     if length_fits(limit, image.len()) {
         w.put(b"at,word\n");
@@ -105,7 +106,7 @@ fn room_for(limit: usize, n: usize) -> usize
 
 // Writes the lines of an image buffer of which n bytes were read, or the refusal, and tells how long that is. An image that has more than `limit`
 // is refused.
-#[tactic(auto, unfolding(crate::specs::Call::called), using(crate::proofs::Front::room))]
+#[tactic(auto, unfolding(crate::specs::Call::called))]
 pub fn write_lines(limit: usize, image: &[u8], n: usize, out: &mut [u8]) -> Result<usize, NoLines>
     ensures told { result ≡ (called limit image.now n out.old).told }
     ensures out { out.new ≡ (called limit image.now n out.old).out }

@@ -12,6 +12,7 @@ use Rattle.lines.specs.Ways.{lines_text, text_of, lines_of, output}
 use Rattle.lines.proofs.Theorem.{fits_parts}
 use Rattle.line_writer.specs.Call.{room_for}
 use Rattle.line_writer.proofs.Laws.{text_behind, room_text, room_refusal, output_text, output_refusal}
+use Rattle.line_writer.proofs.Front.{output_fits}
 use Rattle.line_writer.proofs.put_output.Goals as goal
 
 -- the names line
@@ -36,7 +37,9 @@ returns-then-length_fits c =
     let f = c.put_words.ensures in
     let q = text_behind w.out.now name_line (lines_text (words_from 0 c.args.image.now)) w.at _ _ _ _ (omega (arith, c.requires, room_text c.args.limit n yes)) (e.place, e.holds) (f.place, f.holds) in
     let s : output (lines_of c.args.limit c.args.image.now) ≡ name_line ++ lines_text (words_from 0 c.args.image.now) = output_text c.args.limit c.args.image.now yes ∙ unfold text_of in refl in
-    record { same_buffer = search rules; place = q.0 ∙ ap (λ (t : List ℕ). w.at + length t) (sym s); holds = q.1 ∙ ap (over w.out.now w.at) (sym s) }
+    let p = q.0 ∙ ap (λ (t : List ℕ). w.at + length t) (sym s) in
+    let o = q.1 ∙ ap (over w.out.now w.at) (sym s) in
+    record { same_buffer = search rules; place = p; holds = o; fits = output_fits c.args.limit c.args.image.now w.out.now w.at _ _ c.requires p o }
 
 pub returns-else-length_fits : goal.returns-else-length_fits
 returns-else-length_fits c =
@@ -46,4 +49,6 @@ returns-else-length_fits c =
     let e = c.put_pair.ensures in
     let q = wrote_fits 18 w.out.now w.at (pair_text 0 19) _ _ (omega (arith, c.requires, room_refusal c.args.limit n no)) (e.place, e.holds) in
     let s = output_refusal c.args.limit c.args.image.now no in
-    record { same_buffer = search rules; place = q.0 ∙ ap (λ (t : List ℕ). w.at + length t) (sym s); holds = q.1 ∙ ap (over w.out.now w.at) (sym s) }
+    let p = q.0 ∙ ap (λ (t : List ℕ). w.at + length t) (sym s) in
+    let o = q.1 ∙ ap (over w.out.now w.at) (sym s) in
+    record { same_buffer = search rules; place = p; holds = o; fits = output_fits c.args.limit c.args.image.now w.out.now w.at _ _ c.requires p o }
