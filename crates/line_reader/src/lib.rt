@@ -94,8 +94,9 @@ impl Reader {
         self.count == 0 && 0 < self.lines
     }
 
-    #[tactic(auto, unfolding(crate::specs::Reading::last_test))]
-    // The line and the number of the refusal, where the lines have no image: the length is tested last, and the limit is that of the image's buffer.
+    // The line and the number of the refusal, where the lines have no image: the length is tested last, and the limit is that of the image's
+    // buffer.
+    #[tactic(auto, unfolding(crate::specs::Reading::last_test), using(lines::proofs::Theorem::fits_parts))]
     fn refusal(self, image: &[u8]) -> Option<(u32, u32)>
         ensures ending { ending self image.now ≡ ending_by result self image.now }
         ensures fits { IsNone result → self.end ≤ length image.now }
@@ -112,8 +113,8 @@ impl Reader {
         None
     }
 
-    #[tactic(auto, unfolding(crate::specs::Reading::finished))]
     // The end of the input: so many bytes of the image's buffer are now the whole output.
+    #[tactic(auto, unfolding(crate::specs::Reading::finished))]
     pub fn finish(self, image: &mut [u8]) -> Result<usize, NoOutput>
         ensures told { result ≡ (finished self image.old).told }
         ensures image { image.new ≡ (finished self image.old).image }
@@ -128,8 +129,8 @@ impl Reader {
         }
     }
 
-    #[tactic(auto, unfolding(crate::specs::Reading::finished_file))]
     // The same for the programs: the image's buffer has 32,768 bytes, and one of another length stays as it is.
+    #[tactic(auto, unfolding(crate::specs::Reading::finished_file))]
     pub fn finish_file(self, image: &mut [u8]) -> Result<usize, NoOutput>
         ensures told { result ≡ (finished_file self image.old).told }
         ensures image { image.new ≡ (finished_file self image.old).image }

@@ -76,7 +76,6 @@ fn put_words(w: &mut Writer, image: &[u8])
 }
 
 // Puts the lines of an image behind their names, or its refusal.
-#[tactic(auto, unfolding(lines::specs::Ways::lines_of, lines::specs::Ways::text_of, crate::specs::Call::room_for))]
 fn put_output(w: &mut Writer, limit: usize, image: &[u8])
     requires { w.old.at + room_for limit (length image.now) ≤ length w.old.out.now }
     ensures same_buffer { w.new.out.ghost_name ≡ w.old.out.ghost_name }
@@ -93,7 +92,7 @@ fn put_output(w: &mut Writer, limit: usize, image: &[u8])
 }
 
 // How many bytes a buffer needs for the lines of an image of n bytes.
-#[tactic(auto, unfolding(crate::specs::Call::room_for))]
+#[tactic(auto, unfolding(crate::specs::Call::room_for), using(lines::proofs::Theorem::fits_parts))]
 fn room_for(limit: usize, n: usize) -> usize
     ensures { result ≡ room_for limit n }
 {
