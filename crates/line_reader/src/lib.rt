@@ -265,6 +265,7 @@ impl Reading<'_> {
     }
 
     // The bytes of a part of the input.
+    #[tactic(auto, using(crate::proofs::Laws::feed_turn, crate::proofs::Laws::feed_end))]
     pub fn feed(&mut self, part: &[u8])
         ensures same_buffers { SameBuffers self.new self.old }
         ensures state { state_of self.new ≡ feed part.now (state_of self.old) }

@@ -105,7 +105,7 @@ fn room_for(limit: usize, n: usize) -> usize
 
 // Writes the lines of an image buffer of which n bytes were read, or the refusal, and tells how long that is. An image that has more than `limit`
 // is refused.
-#[tactic(auto, unfolding(crate::specs::Call::called))]
+#[tactic(auto, unfolding(crate::specs::Call::called), using(text::proofs::PutLaws::room_left))]
 pub fn write_lines(limit: usize, image: &[u8], n: usize, out: &mut [u8]) -> Result<usize, NoLines>
     ensures told { result ≡ (called limit image.now n out.old).told }
     ensures out { out.new ≡ (called limit image.now n out.old).out }
