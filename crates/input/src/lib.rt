@@ -2,7 +2,7 @@
 // file the contracts say no more than that the count is one of the buffer's bytes. Of a reader whose bytes are known they say which bytes came.
 #![tactic(auto)]
 
-ghost use Rattle.std.specs.Prelude.{◌≡◌, ◌<◌, [], length, take, IsTrue, IfOk};
+ghost use Rattle.std.specs.Prelude.{◌≡◌, ◌<◌, [], length, take, IsTrue, IfOk, IfErr};
 ghost use Rattle.std.specs.Counts.{IsPrefixLen};
 ghost use Rattle.std.specs.Io.KnownBytes.{Consumes, IsAtEnd};
 
@@ -10,112 +10,89 @@ use std::io::Read;
 use std::rt::Files;
 use std::{fs, io};
 
-// What reading brought: how many bytes stand in the buffer, whether that is all that the buffer or the file has, and the last error, where
-// the system told one.
+// What reading brought: how many bytes stand in the buffer, and the last error, where the system told one.
 #[derive(Clone, Copy)]
 pub struct Got {
     pub count: usize,
-    pub whole: bool,
     pub error: Option<io::Error>,
 }
 
-// How far a buffer was filled, and the error that ended it, if one did.
-#[derive(Clone, Copy)]
-struct Filled {
-    count: usize,
-    error: Option<io::Error>,
-}
-
-// Reads until buf is full, the file ends or a read fails.
-fn fill<R: Read>(reader: &mut R, buf: &mut [u8]) -> Filled
+// Reads until buf is full, the file ends or a read fails. `read_exact` reads on after an interrupted read, and does not say how much it read.
+fn fill<R: Read>(reader: &mut R, buf: &mut [u8]) -> Got
     ensures bound { IsPrefixLen result.count buf.new }
     ensures bytes { Consumes (R.remaining reader.old) (R.remaining reader.new) (take result.count buf.new) }
 {
-    let mut done = 0;
-    while done < buf.len() {
-        match reader.read(&mut buf[done..]) {
+    let mut count = 0;
+    let mut error = None;
+    while count < buf.len() {
+        match reader.read(&mut buf[count..]) {
             Ok(0) => break,
-            Ok(n) => done += n,
+            Ok(n) => count += n,
             Err(e) => {
-                return Filled {
-                    count: done,
-                    error: Some(e),
-                };
+                error = Some(e);
+                break;
             }
         }
     }
-    Filled {
-        count: done,
-        error: None,
-    }
+    Got { count, error }
 }
 
 // Whether a file has no byte left, and one more read says so.
 fn at_end<R: Read>(reader: &mut R) -> io::Result<bool>
     ensures { IfOk result (λ end. IsTrue end → Consumes (R.remaining reader.old) (R.remaining reader.new) [] × IsAtEnd (R.remaining reader.new)) }
 {
-    let mut byte = [0u8; 1];
-    let n = reader.read(&mut byte)?;
+    let n = reader.read(&mut [0])?;
     Ok(n == 0)
 }
 
-// Reads into buf until it is full or the file ends.
-pub fn read_whole<R: Read>(reader: &mut R, buf: &mut [u8]) -> Got
-    ensures bound { IsPrefixLen result.count buf.new }
-    ensures bytes { IsTrue result.whole → Consumes (R.remaining reader.old) (R.remaining reader.new) (take result.count buf.new) }
-    ensures end { IsTrue result.whole → result.count < length buf.new → IsAtEnd (R.remaining reader.new) }
+// Reads into buf until it is full or the file ends. Ok is all that the buffer or the file has, Err is a part of it.
+pub fn read_whole<R: Read>(reader: &mut R, buf: &mut [u8]) -> Result<Got, Got>
+    ensures bound { IfOk result (λ got. IsPrefixLen got.count buf.new) }
+    ensures part { IfErr result (λ got. IsPrefixLen got.count buf.new) }
+    ensures bytes { IfOk result (λ got. Consumes (R.remaining reader.old) (R.remaining reader.new) (take got.count buf.new)) }
+    ensures end { IfOk result (λ got. got.count < length buf.new → IsAtEnd (R.remaining reader.new)) }
 {
-    let filled = fill(reader, buf);
-    let n = filled.count;
-    if n == buf.len() {
-        return Got {
-            count: n,
-            whole: true,
-            error: filled.error,
-        };
+    let got = fill(reader, buf);
+    if got.count == buf.len() {
+        return Ok(got);
     }
     match at_end(reader) {
-        Ok(whole) => Got {
-            count: n,
-            whole,
-            error: filled.error,
-        },
-        Err(e) => Got {
-            count: n,
-            whole: false,
+        Ok(true) => Ok(got),
+        Ok(false) => Err(got),
+        Err(e) => Err(Got {
+            count: got.count,
             error: Some(e),
-        },
+        }),
     }
 }
 
-// Nothing, whole: what an image that is missing counts as.
-fn nothing() -> Got
-    ensures none { result.count ≡ 0 }
-    ensures whole { IsTrue result.whole }
-{
-    Got {
-        count: 0,
-        whole: true,
-        error: None,
-    }
-}
+// What an image that is missing counts as.
+const NOTHING: Got = Got {
+    count: 0,
+    error: None,
+};
 
 // The image, from image.bin: one that is missing, or of which no byte can be read, has none.
-pub fn read_image<R: Files>(rt: &R, buf: &mut [u8]) -> Got
-    ensures { IsPrefixLen result.count buf.new }
+pub fn read_image<R: Files>(rt: &R, buf: &mut [u8]) -> Result<Got, Got>
+    ensures whole { IfOk result (λ got. IsPrefixLen got.count buf.new) }
+    ensures part { IfErr result (λ got. IsPrefixLen got.count buf.new) }
 {
     match fs::open(rt, "image.bin") {
         Ok(file) => read_opened(file, buf),
-        Err(_) => nothing(),
+        Err(_) => Ok(NOTHING),
     }
 }
 
 // The image in a file that is open.
-fn read_opened<F: Read + Drop>(mut file: F, buf: &mut [u8]) -> Got
-    ensures { IsPrefixLen result.count buf.new }
+fn read_opened<F: Read + Drop>(mut file: F, buf: &mut [u8]) -> Result<Got, Got>
+    ensures whole { IfOk result (λ got. IsPrefixLen got.count buf.new) }
+    ensures part { IfErr result (λ got. IsPrefixLen got.count buf.new) }
 {
-    let got = read_whole(&mut file, buf);
-    if got.count == 0 { nothing() } else { got }
+    let read = read_whole(&mut file, buf);
+    match read {
+        Ok(got) | Err(got) if got.count == 0 => Ok(NOTHING),
+        _ => read,
+    }
 }
 
 // What no clause says, since the system's reads are no known bytes: when what was read counts as whole, and that the last error is told.
@@ -166,9 +143,10 @@ mod tests {
         ];
         for (script, count, whole, failed) in cases {
             let mut buf = [0u8; 3];
-            let got = read_whole(&mut Scripted(script), &mut buf);
+            let read = read_whole(&mut Scripted(script), &mut buf);
+            let (Ok(got) | Err(got)) = read;
             assert_eq!(rt; got.count, count, "{script:?}");
-            assert_eq!(rt; got.whole, whole, "{script:?}");
+            assert_eq!(rt; read.is_ok(), whole, "{script:?}");
             assert_eq!(rt; got.error.is_some(), failed, "{script:?}");
         }
     }
@@ -176,9 +154,8 @@ mod tests {
     #[test]
     fn known_bytes(rt: HostRuntime) {
         let mut buf = *b"......";
-        let got = read_whole(&mut &b"abcd"[..], &mut buf);
-        assert_eq!(rt; got.count, 4);
-        assert!(rt; got.whole);
+        let read = read_whole(&mut &b"abcd"[..], &mut buf);
+        assert_eq!(rt; read.map(|got| got.count).ok(), Some(4));
         assert_eq!(rt; buf, *b"abcd..");
     }
 
@@ -186,9 +163,8 @@ mod tests {
     #[test]
     fn an_image_that_is_missing(rt: HostRuntime) {
         let mut buf = [0u8; 3];
-        let got = read_image(&rt, &mut buf);
-        assert_eq!(rt; got.count, 0);
-        assert!(rt; got.whole);
+        let read = read_image(&rt, &mut buf);
+        assert_eq!(rt; read.map(|got| got.count).ok(), Some(0));
     }
 
     // An image of which the first read fails counts as missing, one that fails behind its first byte is not whole.
@@ -201,9 +177,10 @@ mod tests {
         ];
         for (script, count, whole) in cases {
             let mut buf = [0u8; 3];
-            let got = read_opened(Scripted(script), &mut buf);
+            let read = read_opened(Scripted(script), &mut buf);
+            let (Ok(got) | Err(got)) = read;
             assert_eq!(rt; got.count, count, "{script:?}");
-            assert_eq!(rt; got.whole, whole, "{script:?}");
+            assert_eq!(rt; read.is_ok(), whole, "{script:?}");
         }
     }
 }

@@ -4,6 +4,7 @@ use mathlib.Core.Path.{◌≡◌, ap, ap₂, sym, ◌∙◌}
 use mathlib.Core.Bool.{Bool, true, false, cond}
 use mathlib.Core.List.{List, ◌++◌, append-nil}
 use native.Mathlib.Omega.{arith}
+use native.Mathlib.Nat.{zero-add}
 use lib.Dec.{eqb}
 use lib.ListN.{length, get_or, set, take, drop, replicate, drop_of_length-le, length-replicate, get_or-replicate}
 use lib.Seq.{drop-cons, take_all, paste, paste-suc}
@@ -12,16 +13,19 @@ use Rattle.text.specs.Split.{same}
 use Rattle.names.specs.Names.{newline}
 use Rattle.model.specs.declared.Size.TheVariants.{Four}
 use Rattle.model.specs.step.Memory.{written_at}
-use Rattle.lines.specs.declared.Line.{Line}
-use Rattle.lines.specs.Form.{line_names, line_of}
+use Rattle.std.specs.declared.option.Option.{Option}
+use Rattle.std.specs.declared.option.Option.TheVariants.{Some, None}
+use Rattle.std.specs.declared.result.Result.TheVariants.{Ok}
+use Rattle.text.specs.Put.{wrote, place_after}
+use Rattle.text.proofs.PutLaws.{wrote_fits}
+use Rattle.lines.specs.Form.{line_names, line_of, pair_text}
 use Rattle.lines.specs.Ways.{gives, refusal, length_fits}
 use Rattle.lines.specs.Settings.{image_limit}
-use Rattle.line_reader.specs.declared.Verdict.{Verdict}
-use Rattle.line_reader.specs.declared.Verdict.TheVariants.{Form, Order}
+use Rattle.line_reader.specs.declared.Flaw.{Flaw}
+use Rattle.line_reader.specs.declared.Flaw.TheVariants.{Form, Order}
 use Rattle.line_reader.specs.declared.Reader.{Reader}
-use Rattle.line_reader.specs.declared.Told.{Told}
-use Rattle.line_reader.specs.declared.Told.TheVariants.{ShortBuffer, WrongBuffer}
-use Rattle.line_reader.specs.Reading.{State, turn, late_turn, accept, changed, so_far, one_more, with_byte, names_ended, word_ended, said, line_ended, byte_taken, is_decided, step, feed, line_after, complete, last_test, by_verdict, ending, EndCall, end_call, finished, finished_file}
+use Rattle.line_reader.specs.declared.NoOutput.TheVariants.{ShortBuffer, WrongBuffer}
+use Rattle.line_reader.specs.Reading.{State, turn, late_turn, accept, changed, so_far, one_more, with_byte, names_ended, word_ended, said, line_ended, byte_taken, is_decided, step, feed, line_after, complete, last_test, by_flaw, ending, EndCall, end_call, finished, finished_file}
 
 module _ (b : ℕ) (s : State) where
   -- a byte more of a line
@@ -68,7 +72,7 @@ module _ (s : State) where
   unfolding line_ended
   line_names_lem h = rw (eq-eqb s.reader.lines 0 h)
 
-  pub line_said : (s.reader.lines ≡ 0 → ⊥) → (x : Line) → line_of (so_far s) ≡ x → line_ended s ≡ said x s
+  pub line_said : (s.reader.lines ≡ 0 → ⊥) → (x : Option (ℕ × ℕ)) → line_of (so_far s) ≡ x → line_ended s ≡ said x s
   unfolding line_ended
   line_said h x e = rw (ne_eqb s.reader.lines 0 h, e)
 
@@ -94,51 +98,20 @@ pub feed_end : (l : List ℕ) (i : ℕ) (s : State) → length l ≤ i → feed 
 unfolding feed
 feed_end l i s h = ap (λ (k : List ℕ). feed k s) (drop_of_length-le l h)
 
--- ── Clearing ──
-pub cleared : (d : List ℕ) (i : ℕ) → i < length d → set (paste d 0 (replicate (length d) 0) i) i 0 ≡ paste d 0 (replicate (length d) 0) (i + 1)
-cleared d i h =
-    let z : List ℕ = replicate (length d) 0 in
-    let many : length z ≡ length d = length-replicate (length d) 0 in
-    ap₂ (λ (k x : ℕ). set (paste d 0 z i) k x) (let e : i ≡ 0 + i = omega arith in e) (sym (get_or-replicate (length d) i 0 0 h))
-    ∙ paste-suc d 0 z i 0 (omega arith) (omega (arith, many))
-    ∙ ap (paste d 0 z) (let e : suc i ≡ i + 1 = omega arith in e)
-
-pub all_cleared : (d : List ℕ) (i : ℕ) → length d ≤ i → i ≤ length d → paste d 0 (replicate (length d) 0) i ≡ replicate (length d) 0
-all_cleared d i h k =
-    let z : List ℕ = replicate (length d) 0 in
-    let many : length z ≡ length d = length-replicate (length d) 0 in
-    ap₂ (λ (x y : List ℕ). x ++ y) (take_all i z (omega (arith, many))) (drop_of_length-le d {i = 0 + i} (omega arith)) ∙ append-nil z
-
 -- ── The end of the input ──
 module _ (r : Reader) (m : List ℕ) where
-  pub last_good : complete r ≡ true → length_fits (length m) r.end ≡ true → last_test r m ≡ gives (take r.end m)
-  unfolding last_test
-  last_good h k = rw (h, k)
-
-  pub last_length : complete r ≡ true → length_fits (length m) r.end ≡ false → last_test r m ≡ refusal 0 19
-  unfolding last_test
-  last_length h k = rw (h, k)
-
   pub last_open : complete r ≡ false → last_test r m ≡ refusal (line_after r.lines) 18
   unfolding last_test
   last_open h = rw h
 
-  pub finished_short : length m < 18 → finished r m ≡ record { told = ShortBuffer; image = m }
+  -- a refusal that was put in front of what the buffer held
+  pub finished_refusal : (n k p : ℕ) (o : List ℕ) → 18 ≤ length m → ending r m ≡ refusal n k
+      → (p ≡ place_after 18 m 0 (pair_text n k)) × (o ≡ wrote 18 m 0 (pair_text n k)) → (Ok p ≡ (finished r m).told) × (o ≡ (finished r m).image)
   unfolding finished
-  finished_short h = rw (lt-ltb (length m) 18 h)
-
-  pub finished_good : 18 ≤ length m → (v : Verdict) → r.verdict ≡ v → finished r m ≡ end_call (by_verdict v r m) m
-  unfolding finished
-  finished_good h v e = ap (λ (t : Bool). cond t (record { told = ShortBuffer; image = m }) (end_call (ending r m) m)) (le-ltb (length m) 18 h) ∙ ap (λ (x : Verdict). end_call (by_verdict x r m) m) e
-
-  pub file_wrong : (length m ≡ image_limit → ⊥) → finished_file r m ≡ record { told = WrongBuffer; image = m }
-  unfolding finished_file
-  file_wrong h = rw (ne_eqb (length m) image_limit h)
+  finished_refusal n k p o h e w =
+      let q = wrote_fits 18 m 0 (pair_text n k) p o h w in
+      rw (le-ltb (length m) 18 h, e) (ap Ok (q.0 ∙ zero-add _), q.1)
 
   pub file_good : length m ≡ image_limit → finished_file r m ≡ finished r m
   unfolding finished_file
   file_good h = rw (eq-eqb (length m) image_limit h)
-
--- what a call gives, from an equation with its definition
-pub by_call : (x : Told) (o : List ℕ) (c d : EndCall) → d ≡ c → (x ≡ c.told) × (o ≡ c.image) → (x ≡ d.told) × (o ≡ d.image)
-by_call x o c d e w = (w.0 ∙ sym (ap (λ (y : EndCall). y.told) e), w.1 ∙ sym (ap (λ (y : EndCall). y.image) e))

@@ -15,8 +15,9 @@ use Rattle.text.proofs.SplitLaws.{join, past_shorter, same_lengths}
 use Rattle.names.specs.Names.{newline}
 use Rattle.model.specs.declared.Size.TheVariants.{Four}
 use Rattle.model.specs.step.Memory.{written_at}
-use Rattle.lines.specs.declared.Line.{Line}
-use Rattle.lines.specs.declared.Line.TheVariants.{At, Misshapen}
+use Rattle.std.specs.declared.option.Option.{Option}
+use Rattle.std.specs.declared.option.Option.TheVariants.{Some, None}
+use Rattle.std.specs.declared.result.Result.TheVariants.{Ok}
 use Rattle.lines.specs.Form.{line_names, line_of}
 use Rattle.lines.specs.Words.{Word, is_empty, image_from, end_from}
 use Rattle.lines.specs.Ways.{Converted, gives, refusal, length_fits, Read, words, turned, with_word, refuses19, judged, behind, ended, read_lines, has_names, read_all, made, image_of, output}
@@ -25,10 +26,9 @@ use Rattle.lines.proofs.LineLaws.{line_fits, line_short}
 use Rattle.lines.proofs.WordLaws.{Rises}
 use Rattle.lines.proofs.ReadLaws.{order_kept, falls_refused, unaligned_refused, zero_refused, lines_read}
 use Rattle.lines.proofs.Theorem.{fits_parts}
-use Rattle.line_reader.specs.declared.Verdict.{Verdict}
-use Rattle.line_reader.specs.declared.Verdict.TheVariants.{Good, Form, Order}
-use Rattle.line_reader.specs.declared.Told.TheVariants.{Output}
-use Rattle.line_reader.specs.Reading.{State, begun, line_limit, line_after, turn, accept, changed, so_far, names_ended, said, word_ended, line_ended, with_byte, byte_taken, is_decided, decides, step, feed, complete, last_test, by_verdict, ending, EndCall, finished, end_of, end_of_file, Streamed, FileStreamed}
+use Rattle.line_reader.specs.declared.Flaw.{Flaw}
+use Rattle.line_reader.specs.declared.Flaw.TheVariants.{Form, Order}
+use Rattle.line_reader.specs.Reading.{State, begun, line_limit, line_after, turn, accept, changed, so_far, names_ended, said, word_ended, line_ended, with_byte, byte_taken, is_decided, decides, step, feed, complete, last_test, by_flaw, ending, EndCall, finished, end_of, end_of_file, Streamed, FileStreamed}
 use Rattle.line_reader.proofs.Laws.{byte_added, byte_refused, taken_late, taken_newline, taken_other, step_decided, step_taken, names_good, names_wrong, line_names_lem, line_said, word_falls, word_unaligned, word_good, last_open, file_good}
 use Rattle.line_reader.proofs.Stored.{stored, written_length, stored_image}
 use Rattle.line_reader.proofs.Front.{front}
@@ -62,7 +62,7 @@ back_end l s n r b = ap end_gives (feed_decided l s b.stays) ∙ b.refuses
 
 -- n lines have ended and t has been read of the next; the image ends at `least`; z says whether the last word is zero
 record Holds (s : State) (n : ℕ) (t : List ℕ) (least : ℕ) (z : Bool) (m : List ℕ) : Type 0 where
-  good : s.reader.verdict ≡ Good
+  good : s.reader.flaw ≡ None
   lines : s.reader.lines ≡ n
   count : s.reader.count ≡ length t
   text : take (length t) s.line ≡ t
@@ -80,10 +80,10 @@ module _ {s : State} {n : ℕ} {t : List ℕ} {least : ℕ} {z : Bool} {m : List
 
   -- the end of the input there, where the last line has no newline or the names line is missing
   open_end : complete s.reader ≡ false → end_gives s ≡ refusal (line_after n) 18
-  open_end c = ap (λ (v : Verdict). by_verdict v s.reader s.image) h.good ∙ last_open s.reader s.image c ∙ ap (λ (k : ℕ). refusal (line_after k) 18) h.lines
+  open_end c = ap (λ (f : Option Flaw). by_flaw f s.reader s.image) h.good ∙ last_open s.reader s.image c ∙ ap (λ (k : ℕ). refusal (line_after k) 18) h.lines
 
   -- the line being read is turned back
-  turn_back : (v : Verdict) (r : ℕ) → is_decided (turn v s.reader) ≡ true → (end_gives (changed (turn v s.reader) s) ≡ refusal (line_after s.reader.lines) r)
+  turn_back : (v : Flaw) (r : ℕ) → is_decided (turn v s.reader) ≡ true → (end_gives (changed (turn v s.reader) s) ≡ refusal (line_after s.reader.lines) r)
       → (q : State) → q ≡ changed (turn v s.reader) s → Back q (line_after n) r
   turn_back v r d e q f =
       subst (λ (x : State). Back x (line_after n) r) (sym f) (record { stays = d; refuses = e ∙ ap (λ (k : ℕ). refusal (line_after k) r) h.lines })
@@ -158,7 +158,7 @@ unfolding line_after
 line_number_lem n least h k = ap (λ (t : Bool). cond t (n + 1) n) (lt-ltb n line_limit (omega arith)) ∙ (let e : n + 1 ≡ suc n = omega arith in e)
 
 -- the end of a line that says a word
-module _ {s : State} {n : ℕ} {t : List ℕ} {least : ℕ} {m : List ℕ} (h : Holds s n t least false m) (some : 1 ≤ n) (x : Line) (e : line_of t ≡ x) where
+module _ {s : State} {n : ℕ} {t : List ℕ} {least : ℕ} {m : List ℕ} (h : Holds s n t least false m) (some : 1 ≤ n) (x : Option (ℕ × ℕ)) (e : line_of t ≡ x) where
   ended_line : step newline s ≡ said x s
   ended_line =
       step_taken newline s (undecided h) ∙ taken_newline newline s h.zero refl
@@ -195,7 +195,7 @@ late_back b s n least m h =
 line_end : (s : State) (n least : ℕ) (z : Bool) (m : List ℕ) → 1 ≤ n → Holds s n [] least z m → end_gives s ≡ result m least (words [])
 unfolding last_test complete stored end_from
 line_end s n least z m some h =
-    ap (λ (v : Verdict). by_verdict v s.reader s.image) h.good
+    ap (λ (f : Option Flaw). by_flaw f s.reader s.image) h.good
     ∙ ap₂ (λ (t u : Bool). cond (cond t u false) (cond (length_fits (length s.image) s.reader.end) (gives (take s.reader.end s.image)) (refusal 0 19)) (refusal (line_after s.reader.lines) 18))
     (eq-eqb s.reader.count 0 h.count) (lt-ltb 0 s.reader.lines (omega (arith, h.lines)))
     ∙ ap₂ (λ (i : List ℕ) (k : ℕ). cond (length_fits (length i) k) (gives (take k i)) (refusal 0 19)) h.image h.end
@@ -219,23 +219,23 @@ module _ (turns n least : ℕ) (m rest u : List ℕ) (s : State) (some : 1 ≤ n
   refused_as r b = back_end rest (step newline s) (line_after n) r b ∙ ap (λ (k : ℕ). refusal k r) number
 
   -- a word in its place: the rest follows, unless the word is zero and a byte follows it
-  word_end : (a w : ℕ) → Holds s n u least false m → line_of u ≡ At a w → least ≤ a → a % 4 ≡ 0 → a < 2 ^ 32 → Rest turns (suc n) (a + 4) rest
-      → end_gives (feed rest (step newline s)) ≡ result m least (judged (suc n) least rest (At a w) (read_lines turns (suc (suc n)) (a + 4) rest))
+  word_end : (a w : ℕ) → Holds s n u least false m → line_of u ≡ Some (a, w) → least ≤ a → a % 4 ≡ 0 → a < 2 ^ 32 → Rest turns (suc n) (a + 4) rest
+      → end_gives (feed rest (step newline s)) ≡ result m least (judged (suc n) least rest (Some (a, w)) (read_lines turns (suc (suc n)) (a + 4) rest))
   word_end a w h e p q f ih = go rest refl (eqb w 0) refl
     where
       there : Holds (step newline s) (suc n) [] (a + 4) (eqb w 0) (written_at Four m a w)
       there =
           subst (λ (k : ℕ). Holds (step newline s) k [] (a + 4) (eqb w 0) (written_at Four m a w)) number
-          (word_held h some (At a w) e a w (word_good a w s (omega (arith, h.end)) q))
+          (word_held h some (Some (a, w)) e a w (word_good a w s (omega (arith, h.end)) q))
 
       -- where the line is not turned back
-      on : refuses19 least a w rest ≡ false → (w ≡ 0 → rest ≡ []) → end_gives (feed rest (step newline s)) ≡ result m least (judged (suc n) least rest (At a w) (read_lines turns (suc (suc n)) (a + 4) rest))
+      on : refuses19 least a w rest ≡ false → (w ≡ 0 → rest ≡ []) → end_gives (feed rest (step newline s)) ≡ result m least (judged (suc n) least rest (Some (a, w)) (read_lines turns (suc (suc n)) (a + 4) rest))
       on k last =
           ih (eqb w 0) (written_at Four m a w) (step newline s) (omega (arith, p)) (omega (arith, q, f)) (λ z. last (eqb-true w 0 z)) there
           ∙ sym (result_word m least a w (read_lines turns (suc (suc n)) (a + 4) rest))
           ∙ sym (ap (λ (t : Bool). result m least (cond t (turned (suc n) 19) (with_word (record { address = a; word = w }) (read_lines turns (suc (suc n)) (a + 4) rest)))) k)
 
-      go : (l : List ℕ) → rest ≡ l → (t : Bool) → eqb w 0 ≡ t → end_gives (feed rest (step newline s)) ≡ result m least (judged (suc n) least rest (At a w) (read_lines turns (suc (suc n)) (a + 4) rest))
+      go : (l : List ℕ) → rest ≡ l → (t : Bool) → eqb w 0 ≡ t → end_gives (feed rest (step newline s)) ≡ result m least (judged (suc n) least rest (Some (a, w)) (read_lines turns (suc (suc n)) (a + 4) rest))
       go l g false k = on (order_kept least a w rest p q (λ z. absurd (eqb-false w 0 k z))) (λ z. absurd (eqb-false w 0 k z))
       go [] g true k = on (order_kept least a w rest p q (λ z. g)) (λ z. g)
       go (b ∷ bs) g true k =
@@ -244,21 +244,21 @@ module _ (turns n least : ℕ) (m rest u : List ℕ) (s : State) (some : 1 ≤ n
           ∙ sym (ap (λ (t : Bool). result m least (cond t (turned (suc n) 19) (with_word (record { address = a; word = w }) (read_lines turns (suc (suc n)) (a + 4) rest)))) (zero_refused least a w rest p q (eqb-true w 0 k) (ap is_empty g)))
 
   -- a line that was held, by what it says
-  held_end : (x : Line) → Holds s n u least false m → line_of u ≡ x → Rest turns (suc n) (behind x) rest
+  held_end : (x : Option (ℕ × ℕ)) → Holds s n u least false m → line_of u ≡ x → Rest turns (suc n) (behind x) rest
       → end_gives (feed rest (step newline s)) ≡ result m least (judged (suc n) least rest x (read_lines turns (suc (suc n)) (behind x) rest))
-  held_end Misshapen h e ih = refused_as 18 (line_back h some Misshapen e refl)
-  held_end (At a w) h e ih = go (ltb a least) refl (eqb (a % 4) 0) refl
+  held_end None h e ih = refused_as 18 (line_back h some None e refl)
+  held_end (Some (a, w)) h e ih = go (ltb a least) refl (eqb (a % 4) 0) refl
     where
       f : (a < 2 ^ 32) × (w < 2 ^ 32)
       f = line_fits u a w e
 
-      back : refuses19 least a w rest ≡ true → said (At a w) s ≡ changed (turn Order s.reader) s
-          → end_gives (feed rest (step newline s)) ≡ result m least (judged (suc n) least rest (At a w) (read_lines turns (suc (suc n)) (a + 4) rest))
+      back : refuses19 least a w rest ≡ true → said (Some (a, w)) s ≡ changed (turn Order s.reader) s
+          → end_gives (feed rest (step newline s)) ≡ result m least (judged (suc n) least rest (Some (a, w)) (read_lines turns (suc (suc n)) (a + 4) rest))
       back k g =
-          refused_as 19 (order_back h some (At a w) e g)
+          refused_as 19 (order_back h some (Some (a, w)) e g)
           ∙ sym (ap (λ (t : Bool). result m least (cond t (turned (suc n) 19) (with_word (record { address = a; word = w }) (read_lines turns (suc (suc n)) (a + 4) rest)))) k)
 
-      go : (t : Bool) → ltb a least ≡ t → (v : Bool) → eqb (a % 4) 0 ≡ v → end_gives (feed rest (step newline s)) ≡ result m least (judged (suc n) least rest (At a w) (read_lines turns (suc (suc n)) (a + 4) rest))
+      go : (t : Bool) → ltb a least ≡ t → (v : Bool) → eqb (a % 4) 0 ≡ v → end_gives (feed rest (step newline s)) ≡ result m least (judged (suc n) least rest (Some (a, w)) (read_lines turns (suc (suc n)) (a + 4) rest))
       go true p v q = let lt = ltb-true a least p in back (falls_refused least a w rest lt) (word_falls a w s (omega (arith, h.end, lt)))
       go false p false q =
           let le = ltb-false a least p in
@@ -267,11 +267,11 @@ module _ (turns n least : ℕ) (m rest u : List ℕ) (s : State) (some : 1 ≤ n
       go false p true q = word_end a w h e (ltb-false a least p) (eqb-true (a % 4) 0 q) f.0 ih
 
   -- a line that was held, or was too long to be one
-  taken_end : (x : Line) → Taken s n u least m → line_of u ≡ x → Rest turns (suc n) (behind x) rest
+  taken_end : (x : Option (ℕ × ℕ)) → Taken s n u least m → line_of u ≡ x → Rest turns (suc n) (behind x) rest
       → end_gives (feed rest (step newline s)) ≡ result m least (judged (suc n) least rest x (read_lines turns (suc (suc n)) (behind x) rest))
   taken_end x (inl h) e ih = held_end x h e ih
-  taken_end Misshapen (inr b) e ih = ap (λ (q : State). end_gives (feed rest q)) (step_decided newline s b.0.stays) ∙ back_end rest s (line_after n) 18 b.0 ∙ ap (λ (k : ℕ). refusal k 18) number
-  taken_end (At a w) (inr b) e ih = absurd (let z : ⊥ = omega (arith, b.1, line_short u a w e) in z)
+  taken_end None (inr b) e ih = ap (λ (q : State). end_gives (feed rest q)) (step_decided newline s b.0.stays) ∙ back_end rest s (line_after n) 18 b.0 ∙ ap (λ (k : ℕ). refusal k 18) number
+  taken_end (Some (a, w)) (inr b) e ih = absurd (let z : ⊥ = omega (arith, b.1, line_short u a w e) in z)
 
 -- ── The lines from a line on ──
 until_lacks : (b : ℕ) (l : List ℕ) → has b (until b l) ≡ false
@@ -301,7 +301,7 @@ stream (suc turns) n least l few some z m s a b last h = go l few last (stream t
     u : List ℕ → List ℕ
     u k = until newline k
 
-    line : List ℕ → Line
+    line : List ℕ → Option (ℕ × ℕ)
     line k = line_of (u k)
 
     Next : Type 0
@@ -406,9 +406,9 @@ either : (s p q : State) (t : Bool) → Keeps s p → Keeps s q → Keeps s (con
 either s p q true a b = a
 either s p q false a b = b
 
-said_length : (x : Line) (s : State) → Keeps s (said x s)
-said_length Misshapen s = refl
-said_length (At a w) s = unfold word_ended in
+said_length : (x : Option (ℕ × ℕ)) (s : State) → Keeps s (said x s)
+said_length None s = refl
+said_length (Some (a, w)) s = unfold word_ended in
     either s _ _ (ltb a s.reader.end) refl (either s _ _ (eqb (a % 4) 0) (written_length s.image a w) refl)
 
 line_length : (s : State) → Keeps s (line_ended s)
@@ -428,13 +428,13 @@ feed_length (b ∷ bs) s = feed_length bs (step b s) ∙ step_length b s
 
 -- ── The output ──
 whole_front : (d : List ℕ) (limit : ℕ) (l : List ℕ) → 17 ≤ length d → 18 ≤ limit
-    → ((end_of d limit l).told ≡ Output (length (output (image_of limit l)))) × (take (length (output (image_of limit l))) (end_of d limit l).image ≡ output (image_of limit l))
+    → ((end_of d limit l).told ≡ Ok (length (output (image_of limit l)))) × (take (length (output (image_of limit l))) (end_of d limit l).image ≡ output (image_of limit l))
 whole_front d limit l room fit =
     let s = feed l (begun d limit) in
     let long : length s.image ≡ limit = feed_length l (begun d limit) ∙ length-replicate {A = ℕ} limit 0 in
     let f = front s.reader s.image (omega (arith, long)) in
     let e = whole d limit l room in (
-      f.0 ∙ ap (λ (g : Converted). Output (length (output g))) e,
+      f.0 ∙ ap (λ (g : Converted). Ok (length (output g))) e,
       sym (ap (λ (g : Converted). take (length (output g)) (finished s.reader s.image).image) e) ∙ f.1 ∙ ap output e,
     )
 
@@ -446,7 +446,7 @@ streamed = record { parts = feed_parts; decided = feed_decided; whole = whole; f
 file_end : (d l : List ℕ) → end_of_file d l ≡ end_of d image_limit l
 file_end d l = let s = feed l (begun d image_limit) in file_good s.reader s.image (feed_length l (begun d image_limit) ∙ length-replicate {A = ℕ} image_limit 0)
 
-file_front : (d l : List ℕ) → 17 ≤ length d → let s = output (file_image l) in ((end_of_file d l).told ≡ Output (length s)) × (take (length s) (end_of_file d l).image ≡ s)
+file_front : (d l : List ℕ) → 17 ≤ length d → let s = output (file_image l) in ((end_of_file d l).told ≡ Ok (length s)) × (take (length s) (end_of_file d l).image ≡ s)
 file_front d l room =
     let f = whole_front d image_limit l room (omega arith) in
     let e = file_end d l in

@@ -2,298 +2,276 @@
 // image. A line is judged when it ends; once one is turned back, no byte changes anything.
 #![tactic(auto)]
 
-ghost use Rattle.std.specs.Prelude.{◌≡◌, List, ℕ, ◌≤◌, length, take, replicate};
-ghost use Rattle.lines.specs.Form.{pair_of, line_of};
-ghost use Rattle.line_reader.specs.Reading.{fresh, line_after, turn, late_turn, accept, with_byte, names_ended, word_ended, line_ended, byte_taken, step, feed, is_decided, complete, last_test, refusal_call, end_call, finished, finished_file};
+ghost use Rattle.std.specs.Prelude.{◌≡◌, ◌≤◌, length, replicate, IfOk, IsNone};
+ghost use Rattle.text.specs.Put.{wrote, place_after};
+ghost use Rattle.lines.specs.Form.{line_of, pair_text, pair_room};
+ghost use Rattle.line_reader.specs.Reading.{SameBuffers, state_of, fresh, line_after, turned, accepted, so_far, with_byte, names_ended, word_ended, line_ended, step, feed, is_decided, complete, ending, ending_by, finished, finished_file};
 
-use lines::Line;
 use model::Size;
-use text::Value;
+use text::Writer;
 
-// What is known of the lines read so far: nothing against them; 18, the names or the shape or spelling of a line; 19, an address or a zero word.
+// Why a line is turned back, by the numbers of the rules: the names or the shape or spelling of a line; an address or a zero word.
 #[derive(Clone, Copy)]
-pub enum Verdict {
-    Good,
-    Form,
-    Order,
+pub enum Flaw {
+    Form = 18,
+    Order = 19,
 }
 
-// A reader: how many lines have ended, or the line that was turned back; how many bytes of the line being read its buffer holds; where the
-// image ends so far; and whether the last word is zero.
+// A reader: why a line was turned back, if one was; how many lines have ended, or which was turned back; how many bytes of the line being read
+// its buffer holds; where the image ends so far; and whether the last word is zero.
 #[derive(Clone, Copy)]
 pub struct Reader {
-    pub verdict: Verdict,
+    pub flaw: Option<Flaw>,
     pub lines: u32,
     pub count: usize,
     pub end: usize,
     pub zero: bool,
 }
 
-// What the end of the input gives: how many bytes of the buffer are the whole output, that the buffer is too short for a refusal, or, at
-// the end of a program's input, that its length is not the limit.
+// Why the end of the input gives no output: the image's buffer is too short for a refusal, or, at the end of a program's input, its length is not
+// the limit.
 #[derive(Clone, Copy)]
-pub enum Told {
-    Output(usize),
+pub enum NoOutput {
     ShortBuffer,
     WrongBuffer,
 }
 
-// Begins to read: the image is cleared.
-pub fn begin(image: &mut [u8]) -> Reader
-    ensures { (result ≡ fresh) × (image.new ≡ replicate (length image.old) 0) }
-{
-    let mut i = 0;
-    while i < image.len() {
-        image[i] = 0;
-        i += 1;
-    }
-    Reader {
-        verdict: Verdict::Good,
-        lines: 0,
-        count: 0,
-        end: 0,
-        zero: false,
-    }
-}
-
 // The number of the line behind line n.
+#[tactic(auto, unfolding(crate::specs::Reading::line_after))]
 fn line_after(n: u32) -> u32
     ensures { result ≡ line_after n }
 {
-    if n < 4294967295 { // line_limit
-        return n + 1;
-    }
-    n
-}
-
-// The line being read is turned back.
-fn turned(r: Reader, verdict: Verdict) -> Reader
-    ensures { result ≡ turn verdict r }
-{
-    Reader {
-        verdict,
-        lines: line_after(r.lines),
-        count: r.count,
-        end: r.end,
-        zero: r.zero,
-    }
-}
-
-// The last line, whose word is zero, is turned back.
-fn turned_late(r: Reader) -> Reader
-    ensures { result ≡ late_turn r }
-{
-    Reader {
-        verdict: Verdict::Order,
-        lines: r.lines,
-        count: r.count,
-        end: r.end,
-        zero: r.zero,
-    }
-}
-
-// The line being read has ended and is accepted.
-fn accepted(r: Reader, end: usize, zero: bool) -> Reader
-    ensures { result ≡ accept r end zero }
-{
-    Reader {
-        verdict: Verdict::Good,
-        lines: line_after(r.lines),
-        count: 0,
-        end,
-        zero,
-    }
-}
-
-// A byte more of the line being read. A line that its buffer cannot hold is none.
-fn with_byte(r: Reader, b: u8, line: &mut [u8]) -> Reader
-    ensures { (m : List ℕ) → record { reader = result; line = line.new; image = m } ≡ with_byte b (record { reader = r; line = line.old; image = m }) }
-{
-    let at = r.count;
-    if at < line.len() {
-        line[at] = b;
-        return Reader {
-            verdict: Verdict::Good,
-            lines: r.lines,
-            count: at + 1,
-            end: r.end,
-            zero: r.zero,
-        };
-    }
-    turned(r, Verdict::Form)
-}
-
-// The line being read, of which the buffer holds so many bytes.
-fn held(line: &[u8], count: usize) -> &[u8]
-    ensures { result.now ≡ take count line.now }
-{
-    if count < line.len() {
-        return &line[..count];
-    }
-    line
-}
-
-// The values of the two fields of a line.
-fn pair(a: Value, w: Value) -> Line
-    ensures { result ≡ pair_of a w }
-{
-    let Value::Number(x) = a else {
-        return Line::Misshapen;
-    };
-    let Value::Number(y) = w else {
-        return Line::Misshapen;
-    };
-    Line::At(x, y)
+    n.saturating_add(1)
 }
 
 // What a line without its newline says.
-fn read_line(line: &[u8]) -> Line
+#[tactic(auto, unfolding(lines::specs::Form::line_of))]
+fn read_line(line: &[u8]) -> Option<(u32, u32)>
     ensures { result ≡ line_of line.now }
 {
-    let a = text::read_value(text::until(line, b','));
-    let w = text::read_value(text::past(line, b','));
-    pair(a, w)
+    let a = text::read_value(text::until(line, b','))?;
+    let w = text::read_value(text::past(line, b','))?;
+    Some((a, w))
 }
 
-// The names line has ended.
-fn end_names(r: Reader, line: &[u8]) -> Reader
-    ensures { (m : List ℕ) → record { reader = result; line = line.now; image = m } ≡ names_ended (record { reader = r; line = line.now; image = m }) }
+// Puts a refusal in front of what the buffer holds, and tells how long it is.
+fn refuse(image: &mut [u8], line: u32, number: u32) -> usize
+    ensures { (result ≡ place_after pair_room image.old 0 (pair_text line number)) × (image.new ≡ wrote pair_room image.old 0 (pair_text line number)) }
 {
-    if text::same(held(line, r.count), b"at,word") {
-        return accepted(r, 0, false);
-    }
-    turned(r, Verdict::Form)
+    let mut w = Writer::new(image);
+    line_writer::put_pair(&mut w, line, number);
+    w.at
 }
 
-// A line that says a word has ended: the word is stored, if it lies in the image.
-fn end_word(r: Reader, image: &mut [u8], a: u32, w: u32) -> Reader
-    ensures { (d : List ℕ) → record { reader = result; line = d; image = image.new } ≡ word_ended a w (record { reader = r; line = d; image = image.old }) }
-{
-    let at = a as usize;
-    if at < r.end {
-        return turned(r, Verdict::Order);
-    }
-    if at % 4 != 0 {
-        return turned(r, Verdict::Order);
-    }
-    memory::store(image, at, Size::Four, w);
-    accepted(r, at + 4, w == 0)
-}
-
-// The line being read has ended.
-fn end_line(r: Reader, line: &[u8], image: &mut [u8]) -> Reader
-    ensures { record { reader = result; line = line.now; image = image.new } ≡ line_ended (record { reader = r; line = line.now; image = image.old }) }
-{
-    if r.lines == 0 {
-        return end_names(r, line);
-    }
-    match read_line(held(line, r.count)) {
-        Line::At(a, w) => end_word(r, image, a, w),
-        Line::Misshapen => turned(r, Verdict::Form),
-    }
-}
-
-// A byte, where no line was turned back.
-fn take_byte(r: Reader, b: u8, line: &mut [u8], image: &mut [u8]) -> Reader
-    ensures { record { reader = result; line = line.new; image = image.new } ≡ byte_taken b (record { reader = r; line = line.old; image = image.old }) }
-{
-    if r.zero {
-        return turned_late(r);
-    }
-    if b == b'\n' {
-        return end_line(r, line, image);
-    }
-    with_byte(r, b, line)
-}
-
-// Whether a line was turned back: then no byte changes anything.
-pub fn is_decided(r: Reader) -> bool
-    ensures { result ≡ is_decided r }
-{
-    let verdict = r.verdict;
-    match verdict {
-        Verdict::Good => false,
-        Verdict::Form => true,
-        Verdict::Order => true,
-    }
-}
-
-// A byte.
-fn step(r: Reader, b: u8, line: &mut [u8], image: &mut [u8]) -> Reader
-    ensures { record { reader = result; line = line.new; image = image.new } ≡ step b (record { reader = r; line = line.old; image = image.old }) }
-{
-    if is_decided(r) {
-        return r;
-    }
-    take_byte(r, b, line, image)
-}
-
-// The bytes of a part of the input.
-pub fn feed(r: Reader, part: &[u8], line: &mut [u8], image: &mut [u8]) -> Reader
-    ensures { record { reader = result; line = line.new; image = image.new } ≡ feed part.now (record { reader = r; line = line.old; image = image.old }) }
-{
-    let mut reader = r;
-    let mut i = 0;
-    while i < part.len() {
-        reader = step(reader, part[i], line, image);
-        i += 1;
-    }
-    reader
-}
-
-// Whether the last line has its newline, and the names line is there.
-fn is_complete(r: Reader) -> bool
-    ensures { result ≡ complete r }
-{
-    if r.count == 0 {
-        return 0 < r.lines;
-    }
-    false
-}
-
-// A refusal, put in front of what the buffer holds.
-fn refuse(image: &mut [u8], line: u32, number: u32) -> Told
-    requires { 18 ≤ length image.old }
-    ensures { (result ≡ (refusal_call line number image.old).told) × (image.new ≡ (refusal_call line number image.old).image) }
-{
-    Told::Output(line_writer::put_pair(image, 0, line, number))
-}
-
-// The end of an input of which no line was turned back.
-fn last_test(r: Reader, image: &mut [u8]) -> Told
-    requires { 18 ≤ length image.old }
-    ensures { (result ≡ (end_call (last_test r image.old) image.old).told) × (image.new ≡ (end_call (last_test r image.old) image.old).image) }
-{
-    if is_complete(r) {
-        if line_writer::length_fits(image.len(), r.end) {
-            return Told::Output(r.end);
+impl Reader {
+    // Begins to read: the image is cleared.
+    pub fn begin(image: &mut [u8]) -> Reader
+        ensures reader { result ≡ fresh }
+        ensures image { image.new ≡ replicate (length image.old) 0 }
+    {
+        image.fill(0);
+        Reader {
+            flaw: None,
+            lines: 0,
+            count: 0,
+            end: 0,
+            zero: false,
         }
-        return refuse(image, 0, 19);
     }
-    refuse(image, line_after(r.lines), 18)
+
+    // Whether a line was turned back: then no byte changes anything.
+    pub fn is_decided(self) -> bool
+        ensures { result ≡ is_decided self }
+    {
+        self.flaw.is_some()
+    }
+
+    // Whether the last line has its newline, and the names line is there.
+    #[tactic(auto, unfolding(crate::specs::Reading::complete))]
+    fn is_complete(self) -> bool
+        ensures { result ≡ complete self }
+    {
+        self.count == 0 && 0 < self.lines
+    }
+
+    // The line and the number of the refusal, where the lines have no image: the length is tested last, and the limit is that of the image's
+    // buffer.
+    #[tactic(auto, unfolding(crate::specs::Reading::last_test), using(lines::proofs::Theorem::fits_parts))]
+    fn refusal(self, image: &[u8]) -> Option<(u32, u32)>
+        ensures ending { ending self image.now ≡ ending_by result self image.now }
+        ensures fits { IsNone result → self.end ≤ length image.now }
+    {
+        if let Some(flaw) = self.flaw {
+            return Some((self.lines, flaw as u32));
+        }
+        if !self.is_complete() {
+            return Some((line_after(self.lines), 18));
+        }
+        if !line_writer::length_fits(image.len(), self.end) {
+            return Some((0, 19));
+        }
+        None
+    }
+
+    // The end of the input: so many bytes of the image's buffer are now the whole output.
+    #[tactic(auto, unfolding(crate::specs::Reading::finished))]
+    pub fn finish(self, image: &mut [u8]) -> Result<usize, NoOutput>
+        ensures told { result ≡ (finished self image.old).told }
+        ensures image { image.new ≡ (finished self image.old).image }
+        ensures fits { IfOk result (λ size. size ≤ length image.new) }
+    {
+        if image.len() < 18 { // pair_room
+            return Err(NoOutput::ShortBuffer);
+        }
+        match self.refusal(image) {
+            Some((line, number)) => Ok(refuse(image, line, number)),
+            None => Ok(self.end),
+        }
+    }
+
+    // The same for the programs: the image's buffer has 32,768 bytes, and one of another length stays as it is.
+    #[tactic(auto, unfolding(crate::specs::Reading::finished_file))]
+    pub fn finish_file(self, image: &mut [u8]) -> Result<usize, NoOutput>
+        ensures told { result ≡ (finished_file self image.old).told }
+        ensures image { image.new ≡ (finished_file self image.old).image }
+        ensures fits { IfOk result (λ size. size ≤ length image.new) }
+    {
+        if image.len() != 32768 { // image_limit
+            return Err(NoOutput::WrongBuffer);
+        }
+        self.finish(image)
+    }
 }
 
-// The end of the input: so many bytes of the image's buffer are now the whole output.
-pub fn finish(r: Reader, image: &mut [u8]) -> Told
-    ensures { (result ≡ (finished r image.old).told) × (image.new ≡ (finished r image.old).image) }
-{
-    if image.len() < 18 { // pair_room
-        return Told::ShortBuffer;
-    }
-    let verdict = r.verdict;
-    match verdict {
-        Verdict::Good => last_test(r, image),
-        Verdict::Form => refuse(image, r.lines, 18),
-        Verdict::Order => refuse(image, r.lines, 19),
-    }
+// A reader with its two lent buffers: the line being read, and the image.
+#[derive(Drop)]
+pub struct Reading<'a> {
+    pub reader: Reader,
+    pub line: &'a mut [u8],
+    pub image: &'a mut [u8],
 }
 
-// The same for the programs: the image's buffer has 32,768 bytes, and one of another length stays as it is.
-pub fn finish_file(r: Reader, image: &mut [u8]) -> Told
-    ensures { (result ≡ (finished_file r image.old).told) × (image.new ≡ (finished_file r image.old).image) }
-{
-    if image.len() != 32768 { // image_limit
-        return Told::WrongBuffer;
+impl Reading<'_> {
+    // The line being read is turned back.
+    fn turn(&mut self, flaw: Flaw)
+        ensures same_buffers { SameBuffers self.new self.old }
+        ensures state { state_of self.new ≡ turned flaw (state_of self.old) }
+    {
+        self.reader.flaw = Some(flaw);
+        self.reader.lines = line_after(self.reader.lines);
     }
-    finish(r, image)
+
+    // The line being read has ended and is accepted.
+    fn accept(&mut self, end: usize, zero: bool)
+        ensures same_buffers { SameBuffers self.new self.old }
+        ensures state { state_of self.new ≡ accepted end zero (state_of self.old) }
+    {
+        self.reader = Reader {
+            flaw: None,
+            lines: line_after(self.reader.lines),
+            count: 0,
+            end,
+            zero,
+        };
+    }
+
+    // A byte more of the line being read. A line that its buffer cannot hold is none.
+    #[tactic(auto, unfolding(crate::specs::Reading::with_byte))]
+    fn push(&mut self, b: u8)
+        ensures same_buffers { SameBuffers self.new self.old }
+        ensures state { state_of self.new ≡ with_byte b (state_of self.old) }
+    {
+        let at = self.reader.count;
+        if at < self.line.len() {
+            self.line[at] = b;
+            self.reader = Reader {
+                flaw: None,
+                count: at + 1,
+                ..self.reader
+            };
+        } else {
+            self.turn(Flaw::Form);
+        }
+    }
+
+    // The line being read, as far as its buffer holds it.
+    fn held(&self) -> &[u8]
+        ensures { result.now ≡ so_far (state_of self.now) }
+    {
+        let n = self.reader.count.min(self.line.len());
+        &self.line[..n]
+    }
+
+    // The names line has ended.
+    #[tactic(auto, unfolding(crate::specs::Reading::names_ended))]
+    fn end_names(&mut self)
+        ensures same_buffers { SameBuffers self.new self.old }
+        ensures state { state_of self.new ≡ names_ended (state_of self.old) }
+    {
+        if text::same(self.held(), b"at,word") {
+            self.accept(0, false);
+        } else {
+            self.turn(Flaw::Form);
+        }
+    }
+
+    // A line that says a word has ended: the word is stored, if it lies in the image.
+    #[tactic(auto, unfolding(crate::specs::Reading::word_ended))]
+    fn end_word(&mut self, a: u32, w: u32)
+        ensures same_buffers { SameBuffers self.new self.old }
+        ensures state { state_of self.new ≡ word_ended a w (state_of self.old) }
+    {
+        let at = a as usize;
+        if at < self.reader.end || at % 4 != 0 {
+            self.turn(Flaw::Order);
+        } else {
+            memory::store(self.image, at, Size::Four, w);
+            self.accept(at + 4, w == 0);
+        }
+    }
+
+    // The line being read has ended.
+    #[tactic(auto, unfolding(crate::specs::Reading::line_ended))]
+    fn end_line(&mut self)
+        ensures same_buffers { SameBuffers self.new self.old }
+        ensures state { state_of self.new ≡ line_ended (state_of self.old) }
+    {
+        if self.reader.lines == 0 {
+            self.end_names();
+        } else {
+            match read_line(self.held()) {
+                Some((a, w)) => self.end_word(a, w),
+                None => self.turn(Flaw::Form),
+            }
+        }
+    }
+
+    // A byte. Behind a zero word none may follow.
+    #[tactic(auto, unfolding(crate::specs::Reading::step, crate::specs::Reading::byte_taken))]
+    fn step(&mut self, b: u8)
+        ensures same_buffers { SameBuffers self.new self.old }
+        ensures state { state_of self.new ≡ step b (state_of self.old) }
+    {
+        if self.reader.is_decided() {
+            return;
+        }
+        if self.reader.zero {
+            self.reader.flaw = Some(Flaw::Order);
+        } else if b == b'\n' {
+            self.end_line();
+        } else {
+            self.push(b);
+        }
+    }
+
+    // The bytes of a part of the input.
+    #[tactic(auto, using(crate::proofs::Laws::feed_turn, crate::proofs::Laws::feed_end))]
+    pub fn feed(&mut self, part: &[u8])
+        ensures same_buffers { SameBuffers self.new self.old }
+        ensures state { state_of self.new ≡ feed part.now (state_of self.old) }
+    {
+        for &b in part {
+            self.step(b);
+        }
+    }
 }

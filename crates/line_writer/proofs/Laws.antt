@@ -15,7 +15,8 @@ use Rattle.lines.specs.Words.{is_empty, word_of, has_line, kept, words_from}
 use Rattle.lines.specs.Ways.{gives, refusal, length_fits, lines_text, text_of, lines_of, output}
 use Rattle.lines.proofs.LineLaws.{pair_most}
 use Rattle.lines.proofs.Theorem.{fits_parts}
-use Rattle.line_writer.specs.declared.Told.TheVariants.{Text, ShortBuffer, WrongCounts}
+use Rattle.std.specs.declared.result.Result.TheVariants.{Ok}
+use Rattle.line_writer.specs.declared.NoLines.TheVariants.{ShortBuffer, WrongCounts}
 use Rattle.line_writer.specs.Call.{place_after_word, wrote_word, room_for, LinesCall, in_front, left, called}
 
 pub is_empty_lem : (l : List ℕ) → eqb (length l) 0 ≡ is_empty l
@@ -120,54 +121,32 @@ module _ (m d : List ℕ) (start at place : ℕ) (out : List ℕ) (g : Going m d
       (omega (arith, ap length e, g.places), sym (over_none out place (omega (arith, g.room))) ∙ ap (over out place) (sym e) ∙ g.left)
 
 -- a text in front, and another behind it
-pub text_behind : (d s t : List ℕ) (p q : ℕ) (out o : List ℕ) → length s ≤ length d
-    → (p ≡ place_after (length s) d 0 s) × (out ≡ wrote (length s) d 0 s) → (q ≡ p + length t) × (o ≡ over out p t) → (q ≡ length (s ++ t)) × (o ≡ over d 0 (s ++ t))
-text_behind d s t p q out o h a b =
-    let w = wrote_fits (length s) d 0 s p out (omega arith) a in
-    (omega (arith, w.0, b.0, length-append s t), b.1 ∙ ap₂ (λ (x : List ℕ) (n : ℕ). over x n t) w.1 w.0 ∙ over_over d 0 s (omega arith) t)
+pub text_behind : (d s t : List ℕ) (at p q : ℕ) (out o : List ℕ) → at + length s ≤ length d
+    → (p ≡ place_after (length s) d at s) × (out ≡ wrote (length s) d at s) → (q ≡ p + length t) × (o ≡ over out p t) → (q ≡ at + length (s ++ t)) × (o ≡ over d at (s ++ t))
+text_behind d s t at p q out o h a b =
+    let w = wrote_fits (length s) d at s p out (omega arith) a in
+    (omega (arith, w.0, b.0, length-append s t), b.1 ∙ ap₂ (λ (x : List ℕ) (n : ℕ). over x n t) w.1 w.0 ∙ over_over d at s (omega arith) t)
 
 -- ── A call ──
-module _ (limit : ℕ) (image : List ℕ) (n : ℕ) (d : List ℕ) where
-  pub called_wrong : length image < n → called limit image n d ≡ left WrongCounts d
-  unfolding called
-  called_wrong h = rw (lt-ltb (length image) n h)
+module _ (limit n : ℕ) where
+  pub room_text : length_fits limit n ≡ true → room_for limit n ≡ 18 + 18 * (n / 4)
+  unfolding room_for
+  room_text h = rw h
 
-  pub called_short : n ≤ length image → has_room (room_for limit n) d 0 ≡ false → called limit image n d ≡ left ShortBuffer d
-  unfolding called
-  called_short h k = rw (le-ltb (length image) n h, k)
+  pub room_refusal : length_fits limit n ≡ false → room_for limit n ≡ 18
+  unfolding room_for
+  room_refusal h = rw h
 
-  pub called_good : n ≤ length image → has_room (room_for limit n) d 0 ≡ true → called limit image n d ≡ in_front (output (lines_of limit (take n image))) d
-  unfolding called
-  called_good h k = rw (le-ltb (length image) n h, k)
+module _ (limit : ℕ) (m : List ℕ) where
+  -- the output of an image that has lines, and of one that has none
+  pub output_text : length_fits limit (length m) ≡ true → output (lines_of limit m) ≡ text_of (words_from 0 m)
+  unfolding lines_of
+  output_text h = rw h
 
-  module _ (h : n ≤ length image) where
-    same_length : length_fits limit (length (take n image)) ≡ length_fits limit n
-    same_length = ap (length_fits limit) (length-take-le n image h)
+  pub output_refusal : length_fits limit (length m) ≡ false → output (lines_of limit m) ≡ pair_text 0 19
+  unfolding lines_of
+  output_refusal h = rw h
 
-    -- an image that has lines, and one that has none
-    pub output_text : length_fits limit n ≡ true → output (lines_of limit (take n image)) ≡ text_of (words_from 0 (take n image))
-    unfolding lines_of
-    output_text k = ap (λ (t : Bool). output (cond t (gives (text_of (words_from 0 (take n image)))) (refusal 0 19))) (same_length ∙ k)
-
-    pub output_refusal : length_fits limit n ≡ false → output (lines_of limit (take n image)) ≡ pair_text 0 19
-    unfolding lines_of
-    output_refusal k = ap (λ (t : Bool). output (cond t (gives (text_of (words_from 0 (take n image)))) (refusal 0 19))) (same_length ∙ k)
-
-    pub gives_text : (s o : List ℕ) (p : ℕ) → has_room (room_for limit n) d 0 ≡ true → output (lines_of limit (take n image)) ≡ s → (p ≡ length s) × (o ≡ over d 0 s)
-        → (Text p ≡ (called limit image n d).told) × (o ≡ (called limit image n d).out)
-    gives_text s o p k e w =
-        let c : called limit image n d ≡ in_front s d = called_good h k ∙ ap (λ (x : List ℕ). in_front x d) e in
-        (ap Text w.0 ∙ sym (ap (λ (x : LinesCall). x.told) c), w.1 ∙ sym (ap (λ (x : LinesCall). x.out) c))
-
--- the room that was found is enough
-pub room_fits : (limit n : ℕ) (d : List ℕ) → length_fits limit n ≡ true → has_room (room_for limit n) d 0 ≡ true → (n ≤ 16777216) × (18 + 18 * (n / 4) ≤ length d)
-unfolding has_room room_for
-room_fits limit n d h k =
-    let e : leb (0 + (18 + 18 * (n / 4))) (length d) ≡ true = sym (ap (λ (t : Bool). leb (0 + cond t (18 + 18 * (n / 4)) 18) (length d)) h) ∙ k in
-    ((fits_parts limit n h).2, omega (arith, leb-true (0 + (18 + 18 * (n / 4))) (length d) e))
-
-pub room_refusal : (limit n : ℕ) (d : List ℕ) → length_fits limit n ≡ false → has_room (room_for limit n) d 0 ≡ true → 18 ≤ length d
-unfolding has_room room_for
-room_refusal limit n d h k =
-    let e : leb (0 + 18) (length d) ≡ true = sym (ap (λ (t : Bool). leb (0 + cond t (18 + 18 * (n / 4)) 18) (length d)) h) ∙ k in
-    omega (arith, leb-true (0 + 18) (length d) e)
+pub called_good : (limit : ℕ) (image : List ℕ) (n : ℕ) (d : List ℕ) → n ≤ length image → has_room (room_for limit n) d 0 ≡ true → called limit image n d ≡ in_front (output (lines_of limit (take n image))) d
+unfolding called
+called_good limit image n d h k = rw (le-ltb (length image) n h, k)

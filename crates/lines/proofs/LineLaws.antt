@@ -7,33 +7,32 @@ use native.Mathlib.Omega.{arith}
 use lib.ListN.{length, length-append}
 use Rattle.text.specs.Split.{has, until, past}
 use Rattle.text.specs.Hex.{value_of, hex_of, spelled, lean}
-use Rattle.text.specs.declared.Value.{Value}
-use Rattle.text.specs.declared.Value.TheVariants.{Number, Misspelled}
 use Rattle.text.proofs.SplitLaws.{join, join_parts, has_append, past_none}
 use Rattle.text.proofs.HexLaws.{value_text, text_value, value_bound, hex_lacks, hex_some, hex_length}
 use Rattle.names.specs.Names.{comma, newline}
 use Rattle.names.proofs.NameLaws.{comma_no_digit, newline_no_digit}
-use Rattle.lines.specs.declared.Line.TheVariants.{At}
+use Rattle.std.specs.declared.option.Option.{Option}
+use Rattle.std.specs.declared.option.Option.TheVariants.{Some, None}
 use Rattle.lines.specs.Form.{pair_of, line_of, pair_text}
 
-pair_parts : (x y : Value) (a w : ℕ) → pair_of x y ≡ At a w → (x ≡ Number a) × (y ≡ Number w)
-pair_parts (Number b) (Number v) a w h = let p : b ≡ a = cc in let q : v ≡ w = cc in (ap Number p, ap Number q)
-pair_parts (Number b) Misspelled a w h = let z : ◌≡◌ {A = ℕ} 0 1 = cc in absurd (omega arith)
-pair_parts Misspelled y a w h = let z : ◌≡◌ {A = ℕ} 0 1 = cc in absurd (omega arith)
+pair_parts : (x y : Option ℕ) (a w : ℕ) → pair_of x y ≡ Some (a, w) → (x ≡ Some a) × (y ≡ Some w)
+pair_parts (Some b) (Some v) a w h = let p : ◌≡◌ {A = ℕ × ℕ} (b, v) (a, w) = cc in (ap (λ (x : ℕ × ℕ). Some x.0) p, ap (λ (x : ℕ × ℕ). Some x.1) p)
+pair_parts (Some b) None a w h = let z : ◌≡◌ {A = ℕ} 0 1 = cc in absurd (omega arith)
+pair_parts None y a w h = let z : ◌≡◌ {A = ℕ} 0 1 = cc in absurd (omega arith)
 
 -- the values of the two fields
-pub line_values : (l : List ℕ) (a w : ℕ) → line_of l ≡ At a w → (value_of (until comma l) ≡ Number a) × (value_of (past comma l) ≡ Number w)
+pub line_values : (l : List ℕ) (a w : ℕ) → line_of l ≡ Some (a, w) → (value_of (until comma l) ≡ Some a) × (value_of (past comma l) ≡ Some w)
 unfolding line_of
 line_values l a w h = pair_parts (value_of (until comma l)) (value_of (past comma l)) a w h
 
-nothing_misspelled : (w : ℕ) → value_of [] ≡ Number w → ⊥
+nothing_misspelled : (w : ℕ) → value_of [] ≡ Some w → ⊥
 unfolding value_of spelled lean
 nothing_misspelled w h = let z : ◌≡◌ {A = ℕ} 0 1 = cc in omega arith
 
-pub line_text_lem : (l : List ℕ) (a w : ℕ) → line_of l ≡ At a w → l ≡ hex_of a ++ (comma ∷ hex_of w)
+pub line_text_lem : (l : List ℕ) (a w : ℕ) → line_of l ≡ Some (a, w) → l ≡ hex_of a ++ (comma ∷ hex_of w)
 line_text_lem l a w h = go (has comma l) refl
   where
-    v : (value_of (until comma l) ≡ Number a) × (value_of (past comma l) ≡ Number w)
+    v : (value_of (until comma l) ≡ Some a) × (value_of (past comma l) ≡ Some w)
     v = line_values l a w h
 
     go : (t : Bool) → has comma l ≡ t → l ≡ hex_of a ++ (comma ∷ hex_of w)
@@ -41,10 +40,10 @@ line_text_lem l a w h = go (has comma l) refl
     go false e = absurd (nothing_misspelled w (sym (ap value_of (past_none comma l e)) ∙ v.1))
 
 -- its numbers have 32 bits, and it has at most 17 bytes
-pub line_fits : (l : List ℕ) (a w : ℕ) → line_of l ≡ At a w → (a < 2 ^ 32) × (w < 2 ^ 32)
+pub line_fits : (l : List ℕ) (a w : ℕ) → line_of l ≡ Some (a, w) → (a < 2 ^ 32) × (w < 2 ^ 32)
 line_fits l a w h = let v = line_values l a w h in (value_bound (until comma l) a v.0, value_bound (past comma l) w v.1)
 
-pub line_short : (l : List ℕ) (a w : ℕ) → line_of l ≡ At a w → length l ≤ 17
+pub line_short : (l : List ℕ) (a w : ℕ) → line_of l ≡ Some (a, w) → length l ≤ 17
 line_short l a w h = omega (arith, ap length (line_text_lem l a w h), length-append (hex_of a) (comma ∷ hex_of w), hex_length a, hex_length w)
 
 pair_line : (a w : ℕ) (rest : List ℕ) → pair_text a w ++ rest ≡ (hex_of a ++ (comma ∷ hex_of w)) ++ (newline ∷ rest)
@@ -53,7 +52,7 @@ pair_line a w rest = simp append_assoc
 
 -- the text of two numbers of 32 bits, and what follows it
 module _ (a w : ℕ) (ha : a < 2 ^ 32) (hw : w < 2 ^ 32) where
-  says : line_of (hex_of a ++ (comma ∷ hex_of w)) ≡ At a w
+  says : line_of (hex_of a ++ (comma ∷ hex_of w)) ≡ Some (a, w)
   unfolding line_of
   says =
       let p = join_parts comma (hex_of a) (hex_of w) (hex_lacks comma a comma_no_digit ha) in
@@ -63,14 +62,14 @@ module _ (a w : ℕ) (ha : a < 2 ^ 32) (hw : w < 2 ^ 32) where
   lacks_newline : has newline (hex_of a ++ (comma ∷ hex_of w)) ≡ false
   lacks_newline = has_append newline (hex_of a) (comma ∷ hex_of w) (hex_lacks newline a newline_no_digit ha) (unfold has in hex_lacks newline w newline_no_digit hw)
 
-  pub text_line : (rest : List ℕ) → (has newline (pair_text a w ++ rest) ≡ true) × (line_of (until newline (pair_text a w ++ rest)) ≡ At a w) × (past newline (pair_text a w ++ rest) ≡ rest)
+  pub text_line : (rest : List ℕ) → (has newline (pair_text a w ++ rest) ≡ true) × (line_of (until newline (pair_text a w ++ rest)) ≡ Some (a, w)) × (past newline (pair_text a w ++ rest) ≡ rest)
   text_line rest =
       let e = pair_line a w rest in
       let p = join_parts newline (hex_of a ++ (comma ∷ hex_of w)) rest lacks_newline in
       (ap (has newline) e ∙ p.0, ap (λ (x : List ℕ). line_of (until newline x)) e ∙ ap line_of p.1 ∙ says, ap (past newline) e ∙ p.2)
 
 -- a line in front of others, from its parts
-pub line_join : (l : List ℕ) (a w : ℕ) → has newline l ≡ true → line_of (until newline l) ≡ At a w → l ≡ pair_text a w ++ past newline l
+pub line_join : (l : List ℕ) (a w : ℕ) → has newline l ≡ true → line_of (until newline l) ≡ Some (a, w) → l ≡ pair_text a w ++ past newline l
 unfolding pair_text
 line_join l a w h e = join newline l h ∙ ap (λ (x : List ℕ). x ++ (newline ∷ past newline l)) (line_text_lem (until newline l) a w e) ∙ simp append_assoc
 

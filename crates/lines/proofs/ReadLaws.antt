@@ -10,8 +10,8 @@ use borrow.Author.Tests.{eq-eqb, ne_eqb, eqb-true, eqb-false, lt-ltb, le-ltb, lt
 use Rattle.text.specs.Split.{has, until, past, same}
 use Rattle.text.proofs.SplitLaws.{join, join_parts, same_equal, same_refl}
 use Rattle.names.specs.Names.{newline}
-use Rattle.lines.specs.declared.Line.{Line}
-use Rattle.lines.specs.declared.Line.TheVariants.{At, Misshapen}
+use Rattle.std.specs.declared.option.Option.{Option}
+use Rattle.std.specs.declared.option.Option.TheVariants.{Some, None}
 use Rattle.lines.specs.Form.{line_names, line_of, pair_text}
 use Rattle.lines.specs.Words.{Word, is_empty}
 use Rattle.lines.specs.Ways.{Read, words, turned, with_word, falls, unaligned, zero_before, refuses19, judged, behind, ended, read_lines, has_names, read_all, lines_text, text_of}
@@ -75,9 +75,9 @@ with_words x (words ys) xs h = (ys, refl, let e : xs ≡ x ∷ ys = cc in e)
 with_words x (turned n r) xs h = no_words h
 
 -- a line in front
-judged_reads : (n least : ℕ) (l : List ℕ) (x : Line) (q : Read) → has newline l ≡ true → line_of (until newline l) ≡ x → Reads q (behind x) (past newline l) → Reads (judged n least (past newline l) x q) least l
-judged_reads n least l Misshapen q h e ih xs k = no_words k
-judged_reads n least l (At a w) q h e ih xs k = go (refuses19 least a w (past newline l)) refl k
+judged_reads : (n least : ℕ) (l : List ℕ) (x : Option (ℕ × ℕ)) (q : Read) → has newline l ≡ true → line_of (until newline l) ≡ x → Reads q (behind x) (past newline l) → Reads (judged n least (past newline l) x q) least l
+judged_reads n least l None q h e ih xs k = no_words k
+judged_reads n least l (Some (a, w)) q h e ih xs k = go (refuses19 least a w (past newline l)) refl k
   where
     here : Word
     here = record { address = a; word = w }
@@ -141,7 +141,7 @@ has_some b [] h = absurd (true≢false (sym h))
 has_some b (x ∷ xs) h = refl
 
 -- a line that is not turned back, in front
-line_read : (turns n least a w : ℕ) (l rest : List ℕ) → has newline l ≡ true → line_of (until newline l) ≡ At a w → past newline l ≡ rest → refuses19 least a w rest ≡ false
+line_read : (turns n least a w : ℕ) (l rest : List ℕ) → has newline l ≡ true → line_of (until newline l) ≡ Some (a, w) → past newline l ≡ rest → refuses19 least a w rest ≡ false
     → read_lines (suc turns) n least l ≡ with_word (record { address = a; word = w }) (read_lines turns (suc n) (a + 4) rest)
 unfolding read_lines
 line_read turns n least a w l rest h e p f = rw (has_some newline l h, h, e, p, f)

@@ -11,8 +11,6 @@ use lib.ListN.{length}
 use borrow.Author.Tests.{ne_eqb, eqb-true, le-leb, lt-leb, le-ltb, ltb-true, ltb-false}
 use Rattle.text.specs.Split.{has, until, past, same}
 use Rattle.text.specs.Hex.{number, value_of}
-use Rattle.text.specs.declared.Value.{Value}
-use Rattle.text.specs.declared.Value.TheVariants.{Number, Misspelled}
 use Rattle.text.proofs.SplitLaws.{past_none, past_shorter}
 use Rattle.text.proofs.HexLaws.{value_text, value_bound, hex_lacks}
 use Rattle.names.specs.Names.{comma, newline}
@@ -21,8 +19,8 @@ use Rattle.model.specs.step.Checks.{memory_fits}
 use Rattle.model.proofs.Calls.{first_holding, none_some}
 use Rattle.listing.specs.Refusals.{parts, Written, lines_in, first_line, field, is_value, GivenAt}
 use Rattle.listing.proofs.RefusalLaws.{parts_split, split, some_part, written, lines_end, lines_split, first_line_lem, rest_lines, value_read, first_of, first_at, given_at, at_given}
-use Rattle.lines.specs.declared.Line.{Line}
-use Rattle.lines.specs.declared.Line.TheVariants.{At, Misshapen}
+use Rattle.std.specs.declared.option.Option.TheVariants.{Some, None}
+use Rattle.std.specs.declared.option.Option as option
 use Rattle.lines.specs.Form.{line_names, pair_of, line_of}
 use Rattle.lines.specs.Words.{Word, is_empty, image_from, end_from}
 use Rattle.lines.specs.Ways.{Converted, gives, refusal, length_fits, Read, words, turned, with_word, falls, unaligned, zero_before, refuses19, judged, behind, ended, read_lines, has_names, read_all, made, image_of}
@@ -34,38 +32,38 @@ abbrev line : List ℕ → Written
 line t = record { text = t; ended = true }
 
 -- a text with a comma is no value
-comma_misspelled : (s : List ℕ) → has comma s ≡ true → value_of s ≡ Misspelled
+comma_misspelled : (s : List ℕ) → has comma s ≡ true → value_of s ≡ None
 comma_misspelled s h = go (value_of s) refl
   where
-    go : (v : Value) → value_of s ≡ v → v ≡ Misspelled
-    go Misspelled e = refl
-    go (Number n) e =
+    go : (v : option.Option ℕ) → value_of s ≡ v → v ≡ None
+    go None e = refl
+    go (Some n) e =
         let f : has comma s ≡ false = ap (has comma) (value_text s n e) ∙ hex_lacks comma n comma_no_digit (value_bound s n e) in
         absurd (true≢false (sym h ∙ f))
 
-empty_misspelled : value_of [] ≡ Misspelled
+empty_misspelled : value_of [] ≡ None
 empty_misspelled = value_read [] ∙ unfold is_value in refl
 
-second_misshapen : (v : Value) → pair_of v Misspelled ≡ Misshapen
-second_misshapen (Number a) = refl
-second_misshapen Misspelled = refl
+second_misshapen : (v : option.Option ℕ) → pair_of v None ≡ None
+second_misshapen (Some a) = refl
+second_misshapen None = refl
 
 -- what a line says is what its two fields, if it has two, say
 abbrev Says : List ℕ → Type 0
-Says t = ((line_of t ≡ Misshapen) × (misshapen (line t) ≡ true)) ⊎ ((line_of t ≡ At (address_in (line t)) (word_in (line t))) × (misshapen (line t) ≡ false))
+Says t = ((line_of t ≡ None) × (misshapen (line t) ≡ true)) ⊎ ((line_of t ≡ Some (address_in (line t), word_in (line t))) × (misshapen (line t) ≡ false))
 
 two_fields : (t u p : List ℕ) → parts comma t ≡ u ∷ p ∷ [] → line_of t ≡ pair_of (value_of u) (value_of p) → Says t
 unfolding misshapen
 two_fields t u p e f = go (is_value u) refl (is_value p) refl
   where
-    pair : (s : Bool) → is_value u ≡ s → (v : Bool) → is_value p ≡ v → line_of t ≡ pair_of (cond s (Number (number 0 u)) Misspelled) (cond v (Number (number 0 p)) Misspelled)
-    pair s a v b = f ∙ ap₂ pair_of (value_read u ∙ ap (λ (x : Bool). cond x (Number (number 0 u)) Misspelled) a) (value_read p ∙ ap (λ (x : Bool). cond x (Number (number 0 p)) Misspelled) b)
+    pair : (s : Bool) → is_value u ≡ s → (v : Bool) → is_value p ≡ v → line_of t ≡ pair_of (cond s (Some (number 0 u)) None) (cond v (Some (number 0 p)) None)
+    pair s a v b = f ∙ ap₂ pair_of (value_read u ∙ ap (λ (x : Bool). cond x (Some (number 0 u)) None) a) (value_read p ∙ ap (λ (x : Bool). cond x (Some (number 0 p)) None) b)
 
     test : (s : Bool) → is_value u ≡ s → (v : Bool) → is_value p ≡ v → not (true && eqb (length (parts comma t)) 2 && is_value (field 0 (parts comma t)) && is_value (field 1 (parts comma t))) ≡ not (s && v)
     test s a v b = ap (λ (fs : List (List ℕ)). not (true && eqb (length fs) 2 && is_value (field 0 fs) && is_value (field 1 fs))) e ∙ ap₂ (λ (x y : Bool). not (x && y)) a b
 
-    numbers : At (number 0 u) (number 0 p) ≡ At (number 0 (field 0 (parts comma t))) (number 0 (field 1 (parts comma t)))
-    numbers = sym (ap (λ (fs : List (List ℕ)). At (number 0 (field 0 fs)) (number 0 (field 1 fs))) e)
+    numbers : ◌≡◌ {A = option.Option (ℕ × ℕ)} (Some (number 0 u, number 0 p)) (Some (number 0 (field 0 (parts comma t)), number 0 (field 1 (parts comma t))))
+    numbers = sym (ap (λ (fs : List (List ℕ)). Some (number 0 (field 0 fs), number 0 (field 1 fs))) e)
 
     go : (s : Bool) → is_value u ≡ s → (v : Bool) → is_value p ≡ v → Says t
     go true a true b = inr (pair true a true b ∙ numbers, test true a true b)
@@ -73,7 +71,7 @@ two_fields t u p e f = go (is_value u) refl (is_value p) refl
     go false a v b = inl (pair false a v b, test false a v b)
 
 -- another number of fields
-other_fields : (t : List ℕ) → (length (parts comma t) ≡ 2 → ⊥) → line_of t ≡ Misshapen → Says t
+other_fields : (t : List ℕ) → (length (parts comma t) ≡ 2 → ⊥) → line_of t ≡ None → Says t
 unfolding misshapen
 other_fields t h e = inl (e, ap (λ (x : Bool). not (true && x && is_value (field 0 (parts comma t)) && is_value (field 1 (parts comma t)))) (ne_eqb (length (parts comma t)) 2 h))
 
@@ -150,7 +148,7 @@ with_number x (turned n r) = refl
 -- a line, and what is given for it or after it
 module _ (n least : ℕ) (before : Option ℕ) (rest : List ℕ) (h : After before least) where
   judged_number : (w : Written) (q : Read) (y : Option (ℕ × ℕ)) → misshapen w ≡ false → (After (some (address_in w)) (address_in w + 4) → read_number q ≡ y)
-      → read_number (judged n least rest (At (address_in w) (word_in w)) q) ≡ first_of n (first_holding (of_line before w (lines_in rest))) y
+      → read_number (judged n least rest (Some (address_in w, word_in w)) q) ≡ first_of n (first_holding (of_line before w (lines_in rest))) y
   unfolding first_of first_holding of_line
   judged_number w q y m ih = rw (m, sym (placed_same before least w rest h)) (go (refuses19 least (address_in w) (word_in w) rest) refl)
     where
@@ -184,10 +182,10 @@ lines_number (suc turns) n least before l h a = go l h (λ low k p q r. lines_nu
     whole : (u rest : List ℕ) → length rest ≤ turns → Next → Says u
         → read_number (judged n least rest (line_of u) (read_lines turns (suc n) (behind (line_of u)) rest)) ≡ first_of n (first_holding (of_line before (line u) (lines_in rest))) (first_at (numbered (suc n) (some (address_in (line u))) (lines_in rest)))
     whole u rest p ih (inl e) =
-        ap (λ (x : Line). read_number (judged n least rest x (read_lines turns (suc n) (behind x) rest))) e.0
+        ap (λ (x : option.Option (ℕ × ℕ)). read_number (judged n least rest x (read_lines turns (suc n) (behind x) rest))) e.0
         ∙ misshapen_number n before (line u) (lines_in rest) (first_at (numbered (suc n) (some (address_in (line u))) (lines_in rest))) e.1
     whole u rest p ih (inr e) =
-        ap (λ (x : Line). read_number (judged n least rest x (read_lines turns (suc n) (behind x) rest))) e.0
+        ap (λ (x : option.Option (ℕ × ℕ)). read_number (judged n least rest x (read_lines turns (suc n) (behind x) rest))) e.0
         ∙ judged_number n least before rest a (line u) (read_lines turns (suc n) (address_in (line u) + 4) rest) (first_at (numbered (suc n) (some (address_in (line u))) (lines_in rest))) e.1
         (λ b. ih (address_in (line u) + 4) (address_in (line u)) rest p b)
 
@@ -209,8 +207,8 @@ with_read x (turned n r) xs h = no_words h
 abbrev Ends : Read → ℕ → List ℕ → Type 0
 Ends q least l = (xs : List Word) → q ≡ words xs → length_of least (lines_in l) ≡ end_from least xs
 
-judged_ends : (n least : ℕ) (u rest : List ℕ) (q : Read) → Ends q (address_in (line u) + 4) rest → line_of u ≡ At (address_in (line u)) (word_in (line u))
-    → (xs : List Word) → judged n least rest (At (address_in (line u)) (word_in (line u))) q ≡ words xs → length_of least (line u ∷ lines_in rest) ≡ end_from least xs
+judged_ends : (n least : ℕ) (u rest : List ℕ) (q : Read) → Ends q (address_in (line u) + 4) rest → line_of u ≡ Some (address_in (line u), word_in (line u))
+    → (xs : List Word) → judged n least rest (Some (address_in (line u), word_in (line u))) q ≡ words xs → length_of least (line u ∷ lines_in rest) ≡ end_from least xs
 unfolding length_of end_from
 judged_ends n least u rest q ih e xs k = go (refuses19 least (address_in (line u)) (word_in (line u)) rest) k
   where
@@ -237,10 +235,10 @@ lines_ends (suc turns) n least l = go l (λ low k. lines_ends turns (suc n) low 
     Next = (low : ℕ) (k : List ℕ) → Ends (read_lines turns (suc n) low k) low k
 
     whole : (u rest : List ℕ) → Next → Says u → (xs : List Word) → judged n least rest (line_of u) (read_lines turns (suc n) (behind (line_of u)) rest) ≡ words xs → length_of least (line u ∷ lines_in rest) ≡ end_from least xs
-    whole u rest ih (inl e) xs k = no_words (sym (ap (λ (x : Line). judged n least rest x (read_lines turns (suc n) (behind x) rest)) e.0) ∙ k)
+    whole u rest ih (inl e) xs k = no_words (sym (ap (λ (x : option.Option (ℕ × ℕ)). judged n least rest x (read_lines turns (suc n) (behind x) rest)) e.0) ∙ k)
     whole u rest ih (inr e) xs k =
         judged_ends n least u rest (read_lines turns (suc n) (address_in (line u) + 4) rest) (ih (address_in (line u) + 4) rest) e.0 xs
-        (sym (ap (λ (x : Line). judged n least rest x (read_lines turns (suc n) (behind x) rest)) e.0) ∙ k)
+        (sym (ap (λ (x : option.Option (ℕ × ℕ)). judged n least rest x (read_lines turns (suc n) (behind x) rest)) e.0) ∙ k)
 
     by : (x : ℕ) (xs : List ℕ) → Next → (t : Bool) (ys : List Word)
         → ended t n (judged n least (past newline (x ∷ xs)) (line_of (until newline (x ∷ xs))) (read_lines turns (suc n) (behind (line_of (until newline (x ∷ xs)))) (past newline (x ∷ xs)))) ≡ words ys

@@ -1,25 +1,21 @@
 -- A line: the address of four bytes of an image and the word that they make, low byte first.
-use Rattle.std.specs.Prelude.{ℕ, List, [], ◌∷◌, ◌++◌}
+use Rattle.std.specs.Prelude.{ℕ, List, [], ◌∷◌, ◌++◌, Option, Some, None}
 use Rattle.text.specs.Split.{until, past}
 use Rattle.text.specs.Hex.{value_of, hex_of}
-use Rattle.text.specs.declared.Value.{Value}
-use Rattle.text.specs.declared.Value.TheVariants.{Number, Misspelled}
 use Rattle.names.specs.Names.{comma, newline}
-use Rattle.lines.specs.declared.Line.{Line}
-use Rattle.lines.specs.declared.Line.TheVariants.{At, Misshapen}
 
 -- `at,word`, the names
 abbrev pub line_names : List ℕ
 line_names = 97 ∷ 116 ∷ 44 ∷ 119 ∷ 111 ∷ 114 ∷ 100 ∷ []
 
 -- two values, each of them spelled as in a list
-abbrev pub pair_of : Value → Value → Line
-pair_of (Number a) (Number w) = At a w
-pair_of (Number a) Misspelled = Misshapen
-pair_of Misspelled w = Misshapen
+abbrev pub pair_of : Option ℕ → Option ℕ → Option (ℕ × ℕ)
+pair_of (Some a) (Some w) = Some (a, w)
+pair_of (Some a) None = None
+pair_of None w = None
 
 -- what a line without its newline says: a value, a comma and a value. A second comma is no digit, and nothing is no value.
-unfoldable pub line_of : List ℕ → Line
+unfoldable pub line_of : List ℕ → Option (ℕ × ℕ)
 line_of l = pair_of (value_of (until comma l)) (value_of (past comma l))
 
 -- two numbers as a line

@@ -1,11 +1,9 @@
 -- The two ways: the lines of an image, and the image of lines; each gives its bytes, or the line and the number of a refusal. And what is
 -- proved of them.
-use Rattle.std.specs.Prelude.{ℕ, zero, suc, ◌+◌, ◌%◌, ◌<◌, ◌≡◌, Bool, true, false, cond, not, ◌&&◌, ◌||◌, List, [], ◌∷◌, ◌++◌, eqb, ltb, leb, length}
+use Rattle.std.specs.Prelude.{ℕ, zero, suc, ◌+◌, ◌%◌, ◌<◌, ◌≡◌, Bool, true, false, cond, not, ◌&&◌, ◌||◌, List, [], ◌∷◌, ◌++◌, eqb, ltb, leb, length, Option, Some, None}
 use Rattle.text.specs.Split.{has, until, past, same}
 use Rattle.names.specs.Names.{newline}
 use Rattle.model.specs.step.Checks.{memory_fits}
-use Rattle.lines.specs.declared.Line.{Line}
-use Rattle.lines.specs.declared.Line.TheVariants.{At, Misshapen}
 use Rattle.lines.specs.Form.{line_names, line_of, pair_text}
 use Rattle.lines.specs.Words.{Word, is_empty, words_from, image_from, end_from}
 
@@ -58,14 +56,14 @@ unfoldable pub refuses19 : ℕ → ℕ → ℕ → List ℕ → Bool
 refuses19 least a w rest = falls least a || unaligned a || zero_before w rest
 
 -- what line n, in front of `rest`, comes to: 18 before 19
-abbrev pub judged : ℕ → ℕ → List ℕ → Line → Read → Read
-judged n least rest Misshapen more = turned n 18
-judged n least rest (At a w) more = cond (refuses19 least a w rest) (turned n 19) (with_word (record { address = a; word = w }) more)
+abbrev pub judged : ℕ → ℕ → List ℕ → Option (ℕ × ℕ) → Read → Read
+judged n least rest None more = turned n 18
+judged n least rest (Some (a, w)) more = cond (refuses19 least a w rest) (turned n 19) (with_word (record { address = a; word = w }) more)
 
 -- the address behind a line's word
-abbrev pub behind : Line → ℕ
-behind (At a w) = a + 4
-behind Misshapen = 0
+abbrev pub behind : Option (ℕ × ℕ) → ℕ
+behind (Some (a, w)) = a + 4
+behind None = 0
 
 -- 18: no newline
 abbrev pub ended : Bool → ℕ → Read → Read

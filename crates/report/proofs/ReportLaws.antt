@@ -32,8 +32,9 @@ use Rattle.listing.specs.declared.Reason.{Reason}
 use Rattle.listing.specs.declared.Reason.TheVariants.{TooLong, Names}
 use Rattle.listing.specs.Whole.{list_limit, list_number, too_long, has_names, Ending, Reading, stopped_at, read_rest, read_list}
 use Rattle.report_line.specs.Text.{header, no_name, start_name, report_line, line_room}
-use Rattle.report.specs.declared.Told.{Told}
-use Rattle.report.specs.declared.Told.TheVariants.{Report, ShortBuffer, WrongTrack, WrongCounts}
+use Rattle.std.specs.declared.result.Result.TheVariants.{Ok, Err}
+use Rattle.report.specs.declared.NoReport.{NoReport}
+use Rattle.report.specs.declared.NoReport.TheVariants.{ShortBuffer, WrongTrack, WrongCounts}
 use Rattle.report.specs.Report.{setting, Left, replayed, after_start, body_of, headed, report_of, image_limit, memory_length, track_length, passes, looks_at_list, report_limit, Ran, ReportCall, unchanged, reported, called, GivesReport}
 use Rattle.report.proofs.LinesLaws.{ended, stopped_at_lem}
 
@@ -156,43 +157,11 @@ pub ok_passes : (x : Check) → is_ok x ≡ passes x
 ok_passes (Ok tt) = refl
 ok_passes (Err r) = refl
 
-module _ (i : List ℕ) (n : ℕ) (l : List ℕ) (k : ℕ) (t out : List ℕ) where
-  pub call_short : length out < report_limit → called i n l k t out ≡ unchanged ShortBuffer i t out
-  unfolding called
-  call_short a = rw (lt-ltb (length out) report_limit a)
-
-  module _ (a : report_limit ≤ length out) where
-    pub call_track : (length t ≡ track_length → ⊥) → called i n l k t out ≡ unchanged WrongTrack i t out
-    unfolding called
-    call_track b = rw (le-ltb (length out) report_limit a, ne_eqb (length t) track_length b)
-
-    module _ (b : length t ≡ track_length) where
-      pub call_image : length i < n → called i n l k t out ≡ unchanged WrongCounts i t out
-      unfolding called
-      call_image c = rw (le-ltb (length out) report_limit a, eq-eqb (length t) track_length b, lt-ltb (length i) n c)
-
-      pub call_list : n ≤ length i → length l < k → called i n l k t out ≡ unchanged WrongCounts i t out
-      unfolding called
-      call_list c d = rw (le-ltb (length out) report_limit a, eq-eqb (length t) track_length b, le-ltb (length i) n c, lt-ltb (length l) k d)
-
-      pub call_report : n ≤ length i → k ≤ length l → called i n l k t out ≡ reported (report_of (take (memory_length n) i) t (take k l)) (memory_length n) i out
-      unfolding called
-      call_report c d = rw (le-ltb (length out) report_limit a, eq-eqb (length t) track_length b, le-ltb (length i) n c, le-ltb (length l) k d)
-
-pub gives_unchanged : (y : ReportCall) (x : Told) (i t d : List ℕ) → y ≡ unchanged x i t d → GivesReport y x i t d
-gives_unchanged y x i t d e =
-    record {
-      told = sym (ap (λ (z : ReportCall). z.told) e);
-      image = sym (ap (λ (z : ReportCall). z.image) e);
-      track = sym (ap (λ (z : ReportCall). z.track) e);
-      out = sym (ap (λ (z : ReportCall). z.out) e);
-    }
-
-pub gives_report : (y : ReportCall) (r : Left) (size : ℕ) (i d : List ℕ) {p : ℕ} {m t out : List ℕ} → y ≡ reported r size i d → Ran r d 0 p m t out → GivesReport y (Report p) (m ++ drop size i) t out
+pub gives_report : (y : ReportCall) (r : Left) (size : ℕ) (i d : List ℕ) {p : ℕ} {m t out : List ℕ} → y ≡ reported r size i d → Ran r d 0 p m t out → GivesReport y (Ok p) (m ++ drop size i) t out
 gives_report y r size i d {p} {m} {t} {out} e w =
     let f : p ≡ length r.text = omega (arith, w.place) in
     record {
-      told = ap Report f ∙ sym (ap (λ (z : ReportCall). z.told) e);
+      told = ap Ok f ∙ sym (ap (λ (z : ReportCall). z.told) e);
       image = ap (λ (z : List ℕ). z ++ drop size i) w.memory ∙ sym (ap (λ (z : ReportCall). z.image) e);
       track = w.track ∙ sym (ap (λ (z : ReportCall). z.track) e);
       out = w.bytes ∙ sym (ap (λ (z : ReportCall). z.out) e);

@@ -34,9 +34,10 @@ use Rattle.listing.proofs.CanonicalLaws.{line_rest}
 use Rattle.names.specs.Names.{newline}
 use Rattle.report_line.specs.Text.{header, start_name, report_line}
 use Rattle.report_line.proofs.ReportLineLaws.{line_most, refusal_most, start_most}
-use Rattle.report.specs.declared.Told.{Told}
-use Rattle.report.specs.declared.Told.TheVariants.{Report, ShortBuffer, WrongTrack, WrongCounts}
-use Rattle.report.specs.Report.{setting, answer_lines, answer_text, end_text, Left, replayed, after_start, body_of, memory_length, track_length, passes, looks_at_list, report_of, report_limit, unchanged, reported, called}
+use Rattle.std.specs.declared.result.Result.TheVariants.{Ok, Err}
+use Rattle.report.specs.declared.NoReport.{NoReport}
+use Rattle.report.specs.declared.NoReport.TheVariants.{ShortBuffer, WrongTrack, WrongCounts}
+use Rattle.report.specs.Report.{Told, setting, answer_lines, answer_text, end_text, Left, replayed, after_start, body_of, memory_length, track_length, passes, looks_at_list, report_of, report_limit, unchanged, reported, called}
 use Rattle.report.specs.Shown.{session, lines, unless_refused, plain_answer, chip_answer, Honest}
 use Rattle.report.proofs.LinesLaws.{line_for, ended, lines_op, lines_refused, lines_end, stopped_at_lem}
 use Rattle.report.proofs.ReportLaws.{read_long, read_names, read_none, not_long, memory_fits}
@@ -153,7 +154,7 @@ body_fits (Done v) x l = list_fits x l
 body_fits (Faulted f) x l = list_fits x l
 body_fits (Refused r) x l = omega (arith, start_most (refusal_number r))
 
-report_fits : (m t l : List ℕ) → length (report_of m t l).text ≤ report_limit
+pub report_fits : (m t l : List ℕ) → length (report_of m t l).text ≤ report_limit
 unfolding report_of body_of
 report_fits m t l =
     let r = after_start (started m t setting).answer (started m t setting) l in
@@ -161,29 +162,3 @@ report_fits m t l =
 
 pub honest : Honest
 honest = record { accepted = shows_lines; refused_start = shows_start; before_the_list = before_list; plain = shows_plain; chip = shows_chip; fits = report_fits }
-
--- a report that is told of lies within its buffer
-no_report : {p : ℕ} {x : Told} {A : Type 0} → Report p ≡ x → (x ≡ ShortBuffer) ⊎ ((x ≡ WrongTrack) ⊎ (x ≡ WrongCounts)) → A
-no_report e (inl f) = let z : ◌≡◌ {A = ℕ} 0 1 = cc in absurd (omega arith)
-no_report e (inr (inl f)) = let z : ◌≡◌ {A = ℕ} 0 1 = cc in absurd (omega arith)
-no_report e (inr (inr f)) = let z : ◌≡◌ {A = ℕ} 0 1 = cc in absurd (omega arith)
-
-report_of_lem : (p q : ℕ) → Report p ≡ Report q → p ≡ q
-report_of_lem p q e = cc
-
-pub told_fits : (i : List ℕ) (n : ℕ) (l : List ℕ) (k : ℕ) (t out : List ℕ) (p : ℕ) → Report p ≡ (called i n l k t out).told → p ≤ length out
-unfolding called
-told_fits i n l k t out p h = go (ltb (length out) report_limit) refl (eqb (length t) track_length) (ltb (length i) n) (ltb (length l) k) h
-  where
-    r : Left
-    r = report_of (take (memory_length n) i) t (take k l)
-
-    go : (a : Bool) → ltb (length out) report_limit ≡ a → (b c d : Bool) →
-        Report p ≡ (cond a (unchanged ShortBuffer i t out) (cond b (cond c (unchanged WrongCounts i t out) (cond d (unchanged WrongCounts i t out) (reported r (memory_length n) i out))) (unchanged WrongTrack i t out))).told → p ≤ length out
-    go true e b c d f = no_report f (inl refl)
-    go false e false c d f = no_report f (inr (inl refl))
-    go false e true true d f = no_report f (inr (inr refl))
-    go false e true false true f = no_report f (inr (inr refl))
-    go false e true false false f =
-        let q = report_of_lem p (length r.text) f in
-        omega (arith, q, report_fits (take (memory_length n) i) t (take k l), ltb-false (length out) report_limit e)

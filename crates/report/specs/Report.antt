@@ -15,8 +15,9 @@ use Rattle.text.specs.Put.{over}
 use Rattle.names.specs.Names.{name}
 use Rattle.listing.specs.Whole.{list_number, Ending, finished, stopped, Reading, read_list}
 use Rattle.report_line.specs.Text.{header, no_name, start_name, report_line}
-use Rattle.report.specs.declared.Told.{Told}
-use Rattle.report.specs.declared.Told.TheVariants.{Report, ShortBuffer, WrongTrack, WrongCounts}
+use Rattle.std.specs.declared.result.Result as Answered
+use Rattle.report.specs.declared.NoReport.{NoReport}
+use Rattle.report.specs.declared.NoReport.TheVariants.{ShortBuffer, WrongTrack, WrongCounts}
 
 -- the program's settings: the longest image, 8 contexts and so 9 rows of 1,024 words, root 0
 abbrev pub image_limit : ℕ
@@ -108,7 +109,11 @@ pub record Ran (r : Left) (d : List ℕ) (at p : ℕ) (m t out : List ℕ) : Typ
   pub place : p ≡ at + length r.text
   pub bytes : out ≡ over d at r.text
 
--- what a call answers, and what it leaves in each buffer
+-- what a call answers: how long the report is, or why there is none
+abbrev pub Told : Type 0
+Told = Answered.Result ℕ NoReport
+
+-- the answer, and what is left in each buffer
 pub record ReportCall : Type 0 where
   pub told : Told
   pub image : List ℕ
@@ -116,13 +121,13 @@ pub record ReportCall : Type 0 where
   pub out : List ℕ
 
 -- an answer of its own, which changes nothing
-abbrev pub unchanged : Told → List ℕ → List ℕ → List ℕ → ReportCall
-unchanged x i t out = record { told = x; image = i; track = t; out = out }
+abbrev pub unchanged : NoReport → List ℕ → List ℕ → List ℕ → ReportCall
+unchanged x i t out = record { told = Err x; image = i; track = t; out = out }
 
 -- the report, in front of what the buffer held behind it
 abbrev pub reported : Left → ℕ → List ℕ → List ℕ → ReportCall
 reported r size i out =
-    record { told = Report (length r.text); image = r.memory ++ drop size i; track = r.track; out = over out 0 r.text }
+    record { told = Ok (length r.text); image = r.memory ++ drop size i; track = r.track; out = over out 0 r.text }
 
 -- a call with an image buffer of which n bytes were read, a list buffer of which k were, a track, and a buffer for the report
 unfoldable pub called : List ℕ → ℕ → List ℕ → ℕ → List ℕ → List ℕ → ReportCall

@@ -1,7 +1,7 @@
 // The whole report: from the bytes of an image and of a list to the bytes of the report.
 #![tactic(auto)]
 
-ghost use Rattle.std.specs.Prelude.{◌≡◌, ◌+◌, ◌*◌, ◌≤◌, length};
+ghost use Rattle.std.specs.Prelude.{◌≡◌, ◌+◌, ◌*◌, ◌≤◌, length, IfOk};
 ghost use Rattle.model.specs.Limits.{old_window};
 ghost use Rattle.model.specs.declared.Answer.TheVariants.{Done};
 ghost use Rattle.model.specs.step.Machine.{After};
@@ -12,10 +12,9 @@ ghost use Rattle.report.specs.Report.{memory_length, looks_at_list, replayed, bo
 use listing::{Line, Reason};
 use model::{Answer, Registers, Setting};
 
-// What a call answers: how long the report is, or why there is none.
+// Why a call gives no report.
 #[derive(Clone, Copy)]
-pub enum Told {
-    Report(usize),
+pub enum NoReport {
     ShortBuffer,
     WrongTrack,
     WrongCounts,
@@ -25,10 +24,8 @@ pub enum Told {
 fn memory_length(n: usize) -> usize
     ensures { result ≡ memory_length n }
 {
-    if n <= 32768 { // image_limit
-        return n;
-    }
-    0
+    // image_limit
+    if n <= 32768 { n } else { 0 }
 }
 
 // Whether the list is looked at: a start from an image file of n bytes is accepted.
@@ -115,8 +112,9 @@ fn whole(m: &mut [u8], t: &mut [u32], list: &[u8], out: &mut [u8]) -> usize
     body(m, t, list, out, at)
 }
 
-// Writes the report of an image buffer of which n bytes were read and a list buffer of which k were. `image` and `track` hold
+// Writes the report of an image buffer of which n bytes were read and a list buffer of which k were, and answers how long it is. `image` and `track` hold
 // memory and track afterwards, and `out` holds the report in front of what it held.
+#[tactic(auto, unfolding(crate::specs::Report::called), using(crate::proofs::ReportLaws::gives_report, crate::proofs::ShownLaws::report_fits))]
 pub fn write_report(
     image: &mut [u8],
     n: usize,
@@ -124,21 +122,19 @@ pub fn write_report(
     k: usize,
     track: &mut [u32],
     out: &mut [u8],
-) -> Told
-    ensures { GivesReport (called image.old n list.now k track.old out.old) result image.new track.new out.new }
+) -> Result<usize, NoReport>
+    ensures gives { GivesReport (called image.old n list.now k track.old out.old) result image.new track.new out.new }
+    ensures fits { IfOk result (λ size. size ≤ length out.new) }
 {
     if out.len() < 262272 { // report_limit
-        return Told::ShortBuffer;
+        return Err(NoReport::ShortBuffer);
     }
     if track.len() != 9216 { // track_length
-        return Told::WrongTrack;
+        return Err(NoReport::WrongTrack);
     }
-    if image.len() < n {
-        return Told::WrongCounts;
-    }
-    if list.len() < k {
-        return Told::WrongCounts;
+    if image.len() < n || list.len() < k {
+        return Err(NoReport::WrongCounts);
     }
     let size = memory_length(n);
-    Told::Report(whole(&mut image[..size], track, &list[..k], out))
+    Ok(whole(&mut image[..size], track, &list[..k], out))
 }

@@ -5,17 +5,17 @@ ghost use Rattle.std.specs.Prelude.{◌≡◌, ◌+◌, length};
 ghost use Rattle.report.specs.Report.{called};
 ghost use Rattle.report_ffi.specs.Call.{told_number, GivesCall};
 
-use report::Told;
+use report::NoReport;
 
 // What a call answers, as a number: how long the report is, or 0x300000000 plus 0, 1 or 2.
-fn told_number(x: Told) -> u64
+fn told_number(x: Result<usize, NoReport>) -> u64
     ensures { result ≡ told_number x }
 {
     match x {
-        Told::Report(n) => n as u64,
-        Told::ShortBuffer => 12884901888, // 0x300000000
-        Told::WrongTrack => 12884901889, // plus 1
-        Told::WrongCounts => 12884901890, // plus 2
+        Ok(n) => n as u64,
+        Err(NoReport::ShortBuffer) => 0x300000000,
+        Err(NoReport::WrongTrack) => 0x300000001,
+        Err(NoReport::WrongCounts) => 0x300000002,
     }
 }
 

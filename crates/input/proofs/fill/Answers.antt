@@ -14,10 +14,10 @@ joined d k n xs ys within fits =
     let back = ap (take n) (drop_at (take d xs) (ys ++ after) d (length-take-le d xs within)) ∙ take-append-le n ys after fits in
     take-add d n (put_mid d k xs ys) ∙ ap (λ l. l ++ take n (drop d (put_mid d k xs ys))) front ∙ ap (λ l. take d xs ++ l) back
 
-pub loop-done-preserved : goal.loop-done-preserved
-loop-done-preserved g c =
+pub loop-count-preserved : goal.loop-count-preserved
+loop-count-preserved g c =
     let read = c.in-Ok.ensures in
-    let before = c.loop-done.invariant in
+    let before = c.loop-count.invariant in
     record {
       within = search rules;
       same_length = search rules;

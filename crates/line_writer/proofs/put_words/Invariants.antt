@@ -1,10 +1,11 @@
-use Prim.Native.Nat.{◌-◌, ◌≤◌}
+use Prim.Native.Nat.{◌*◌, ◌≤◌}
+use mathlib.Core.Path.{◌≡◌}
 use lib.ListN.{length}
 use Rattle.line_writer.proofs.Laws.{Going}
 use Rattle.line_writer.proofs.put_words.Given as goal
 
-abbrev pub invariant-loop-at : goal.invariant-loop-at
-invariant-loop-at l = Going l.image l.initial.out l.start l.at l.place l.out × (length l.image ≤ 16777216)
-
-abbrev pub decreases-loop-at : goal.decreases-loop-at
-decreases-loop-at l = length l.image - l.at
+abbrev pub invariant-loop-k : goal.invariant-loop-k
+invariant-loop-k l = record {
+  same_buffer : l.w.out.ghost_name ≡ l.initial.w.out.ghost_name;
+  going : Going l.image l.initial.w.out.now l.initial.w.at (4 * l.k) l.w.at l.w.out.now;
+}
