@@ -1,3 +1,3 @@
--- Laws of the C functions.
+-- Kinds and their numbers, and the C functions by cases.
 pub mod Laws
 pub mod CallCases

@@ -14,10 +14,7 @@ use model::{Access, Answer, OLD_WINDOW, Purpose, Refusal, Registers, Returned, S
 pub fn value_of(x: Option<u32>) -> u32
     ensures { result ≡ value_of x }
 {
-    match x {
-        Some(v) => v,
-        None => 0,
-    }
+    x.unwrap_or(0)
 }
 
 // Carried out: the track is noted with the registers and the memory left.
