@@ -1,3 +1,2 @@
--- Laws of values, and of rows of any size.
-pub mod Laws
+-- Laws of rows of any size.
 pub mod Sizes
