@@ -1,5 +1,5 @@
 -- Laws of lists of words in rows.
-use Prim.Native.Nat.{ℕ, zero, suc, ◌+◌, ◌*◌, ◌/◌, ◌≤◌, ◌<◌, zero-le}
+use Prim.Native.Nat.{ℕ, zero, suc, ◌+◌, ◌-◌, ◌*◌, ◌/◌, ◌≤◌, ◌<◌, zero-le}
 use mathlib.Core.Path.{◌≡◌, refl, sym, ap, ◌∙◌}
 use mathlib.Core.List.{List, [], ◌∷◌, ◌++◌}
 use native.Mathlib.Nat.{le_of_suc-le-suc, not-suc-le-zero, add-zero, add-suc, suc-add, zero-add, suc-mul, mul-zero, zero-lt-suc}
@@ -11,7 +11,7 @@ use borrow.Rule.Slice.PartMut.{put_mid}
 use mathlib.Core.Bool.{Bool, true, false, cond}
 use lib.Dec.{leb}
 use Rattle.model.specs.step.Rows.{map_first, map_words, row_start, in_part, in_row, each_row}
-use Rattle.limits.proofs.Sizes.{row_past, start_place}
+use Rattle.limits.specs.Ranges.{IsRowRange}
 
 -- a word stored where it stands
 set_own : (l : List ℕ) (n : ℕ) → set l n (get_or l n 0) ≡ l
@@ -124,47 +124,9 @@ still_row f size c k l e q = go (leb (c * size + size) (length l))
     go true = sym (part_own (c * size) k l) ∙ put_part f (c * size) size k l (take k (drop (c * size) l)) e q
     go false = refl
 
--- a row that was lent and came back as ys
-pub put_row : (f : List ℕ → List ℕ) (size c k : ℕ) (l ys : List ℕ) → k ≡ size → c * size + size ≤ length l → ys ≡ f (take k (drop (c * size) l)) → put_mid (c * size) k l ys ≡ in_row size c f l
-unfolding in_row
-put_row f size c k l ys e h q = rw (le-leb (c * size + size) (length l) h) (put_part f (c * size) size k l ys e q)
-
--- no such row
-pub no_row : (f : List ℕ → List ℕ) (size c : ℕ) (l : List ℕ) → length l < c * size + size → l ≡ in_row size c f l
-unfolding in_row
-no_row f size c l h = rw (lt-leb (c * size + size) (length l) h)
-
--- a turn of a loop that changes one row after the other
-pub row_turn : (f : List ℕ → List ℕ) (size c : ℕ) (old l new : List ℕ) → l ≡ each_row size c f old → new ≡ in_row size c f l → new ≡ each_row size (c + 1) f old
-unfolding each_row
-row_turn f size c old l new w q = rw add-one (q ∙ ap (in_row size c f) w)
-
--- ── Rows of a size that is told, lent from where they start ──
-
--- a row that stands there was lent and came back as ys
-pub put_at : (f : List ℕ → List ℕ) (size row start words k : ℕ) (l ys : List ℕ) → start ≡ row * size → words ≡ size → start + words ≤ length l →
-    k ≡ words → ys ≡ f (take k (drop start l)) → put_mid start k l ys ≡ in_row size row f l
-put_at f size row start words k l ys place is room e q =
-    ap (λ (s : ℕ). put_mid s k l ys) place
-    ∙ put_row f size row k l ys (e ∙ is) (rw (← place, ← is) room) (q ∙ ap (λ (s : ℕ). f (take k (drop s l))) place)
-
--- a row that has room was lent from where it starts, and came back as ys
-pub put_from : (f : List ℕ → List ℕ) (size row start words k : ℕ) (l ys : List ℕ) → start ≡ row_start size row (length l) → words ≡ size → start + words ≤ length l →
-    k ≡ words → ys ≡ f (take k (drop start l)) → put_mid start k l ys ≡ in_row size row f l
-put_from f size row start words k l ys at is room e q =
-    put_at f size row start words k l ys (at ∙ start_place size row (length l) (rw (← at, ← is) room)) is room e q
-
--- a row past the whole rows is not there; where rows have no words, f has none to change
-pub none_past : (f : List ℕ → List ℕ) (size row count : ℕ) (l : List ℕ) → f [] ≡ [] → count ≡ length l / size → count ≤ row → l ≡ in_row size row f l
-none_past f zero row count l nothing many h = sym (unfold in_row in rw (mul-zero row, le-leb 0 (length l) zero-le) (ap (λ (ys : List ℕ). ys ++ l) nothing))
-none_past f (suc s) row count l nothing many h =
-    let past : length l < suc row * suc s = row_past (length l) (suc s) (suc row) (zero-lt-suc s) (omega arith) in
-    let step : suc row * suc s ≡ row * suc s + suc s = suc-mul row (suc s) in
-    no_row f (suc s) row l (omega arith)
-
--- a row that f leaves as it is, seen from where it starts
-pub still_from : (f : List ℕ → List ℕ) (size row start words k : ℕ) (l : List ℕ) → start ≡ row_start size row (length l) → words ≡ size → start + words ≤ length l →
-    k ≡ words → take k (drop start l) ≡ f (take k (drop start l)) → l ≡ in_row size row f l
-still_from f size row start words k l at is room e q =
-    let place = at ∙ start_place size row (length l) (rw (← at, ← is) room) in
-    still_row f size row k l (e ∙ is) (sym (ap (λ (s : ℕ). take k (drop s l)) place) ∙ q ∙ ap (λ (s : ℕ). f (take k (drop s l))) place)
+-- the same, seen from where it stands
+pub still_range : (f : List ℕ → List ℕ) (size c start end : ℕ) (l : List ℕ) → IsRowRange size c (length l) start end →
+    take (end - start) (drop start l) ≡ f (take (end - start) (drop start l)) → l ≡ in_row size c f l
+still_range f size c start end l r q =
+    let words : end - start ≡ size = omega (arith, r.to) in
+    still_row f size c (end - start) l words (sym (ap (λ (s : ℕ). take (end - start) (drop s l)) r.from) ∙ q ∙ ap (λ (s : ℕ). f (take (end - start) (drop s l))) r.from)
