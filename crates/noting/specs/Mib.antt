@@ -1,5 +1,5 @@
 -- Noting the pages of a MiB, which share one level-one descriptor.
-use Rattle.std.specs.Prelude.{ℕ, ◌+◌, ◌*◌, ◌≡◌, min, cond, List, eqb}
+use Rattle.std.specs.Prelude.{ℕ, ◌+◌, ◌*◌, ◌≡◌, min, List}
 use Rattle.model.specs.step.Rows.{map_words}
 use Rattle.model.specs.step.Walk.{descriptor_at, first_from, walk_from}
 use Rattle.model.specs.step.Track.{add_outcome}
@@ -19,10 +19,6 @@ abbrev pub note_mib : List ℕ → ℕ → ℕ → ℕ → ℕ → ℕ
 note_mib m at g i w = add_outcome g w (walk_from (first_from (descriptor_at m at) i) m i)
 
 -- The words of a page in a context's row and in the global row.
-
--- the one in the row that an entry of kind g belongs to
-abbrev pub word_for : ℕ → ℕ → ℕ → ℕ
-word_for g own shared = cond (eqb g 1) shared own
 
 -- noting what the walk of its page found leaves both as they are
 pub record Stays (own shared : ℕ) (o : Outcome) : Type 0 where

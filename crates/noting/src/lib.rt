@@ -8,7 +8,7 @@ ghost use Rattle.model.specs.Limits.{row_size};
 ghost use Rattle.model.specs.step.Rows.{map_words, in_row};
 ghost use Rattle.model.specs.step.Walk.{first_of, walk_from};
 ghost use Rattle.model.specs.step.Track.{add_outcome, note_page, note_row, note_track};
-ghost use Rattle.noting.specs.Mib.{note_mib, IsMibRange, word_for, Stays, Both};
+ghost use Rattle.noting.specs.Mib.{note_mib, IsMibRange, Stays, Both};
 
 use descriptor::first_of;
 use limits::{last_row, row_range};
@@ -90,20 +90,13 @@ fn note_in(window: u32, m: &[u8], tables: Tables, global: u32, track: &mut [u32]
 
 // Most notings change nothing. To see that, both rows are read together, which is quicker than to write each.
 
-// The word of a page in the row that its entry belongs to.
-fn word_for(global: u32, own: u32, shared: u32) -> u32
-    ensures { result ≡ word_for global own shared }
-{
-    if global == 1 { shared } else { own }
-}
-
 // Whether noting what the walk of its page found leaves its words in a context's row and in the global row as they are.
 fn stays(own: u32, shared: u32, o: Outcome) -> bool
     ensures { result ≡ true → Stays own shared o }
 {
     match o {
         Outcome::Mapped(e) => {
-            let w = word_for(e.global, own, shared);
+            let w = if e.global == 1 { shared } else { own };
             add_entry(e.global, w, walk::entry_word(e)) == w
         }
         Outcome::Failed(_) => true,
@@ -131,9 +124,9 @@ fn rows_settled(m: &[u8], tables: Tables, own: &[u32], shared: &[u32]) -> bool
     ensures { result ≡ true → Both (note_page m.now tables) own.now shared.now }
 {
     for mib in 0..own.len().div_ceil(MIB) {
-        let at = tables.root as usize + 4 * mib;
+        let first = tables.root as usize + 4 * mib;
         let words = mib_range(mib, own.len());
-        if !mib_settled(m, at, &own[words.start..words.end], &shared[words]) {
+        if !mib_settled(m, first, &own[words.start..words.end], &shared[words]) {
             return false;
         }
     }

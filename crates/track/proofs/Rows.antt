@@ -1,30 +1,19 @@
 -- Laws of lists of words in rows.
-use Prim.Native.Nat.{ℕ, zero, suc, ◌+◌, ◌-◌, ◌*◌, ◌/◌, ◌≤◌, ◌<◌, zero-le}
+use Prim.Native.Nat.{ℕ, zero, suc, ◌+◌, ◌-◌, ◌*◌, ◌≤◌, ◌<◌}
 use mathlib.Core.Path.{◌≡◌, refl, sym, ap, ◌∙◌}
 use mathlib.Core.List.{List, [], ◌∷◌, ◌++◌}
-use native.Mathlib.Nat.{le_of_suc-le-suc, not-suc-le-zero, add-zero, add-suc, suc-add, zero-add, suc-mul, mul-zero, zero-lt-suc}
+use native.Mathlib.Nat.{le_of_suc-le-suc, not-suc-le-zero, add-zero, add-suc, suc-add, zero-add}
 use native.Mathlib.Numerals.{add-one}
 use native.Mathlib.Omega.{arith}
 use lib.ListN.{length, get_or, set, take, drop}
-use borrow.Author.Tests.{le-leb, lt-leb}
 use borrow.Rule.Slice.PartMut.{put_mid}
 use mathlib.Core.Bool.{Bool, true, false, cond}
 use lib.Dec.{leb}
-use Rattle.model.specs.step.Rows.{map_first, map_words, row_start, in_part, in_row, each_row}
+use Rattle.std.proofs.lemmas.List.{set-get_or, take-append-drop}
+use Rattle.model.specs.step.Rows.{map_first, in_part, in_row}
 use Rattle.limits.specs.Ranges.{IsRowRange}
 
--- a word stored where it stands
-set_own : (l : List ℕ) (n : ℕ) → set l n (get_or l n 0) ≡ l
-set_own [] n = refl
-set_own (w ∷ ws) zero = refl
-set_own (w ∷ ws) (suc n) = ap (λ (l : List ℕ). w ∷ l) (set_own ws n)
-
 module _ (f : ℕ → ℕ → ℕ) where
-  pub length_map_first : (i n : ℕ) (l : List ℕ) → length (map_first f i n l) ≡ length l
-  length_map_first i zero l = refl
-  length_map_first i (suc n) [] = refl
-  length_map_first i (suc n) (w ∷ ws) = ap suc (length_map_first (suc i) n ws)
-
   -- the word after the first n is as it was
   pub next_map_first : (i n : ℕ) (l : List ℕ) → get_or (map_first f i n l) n 0 ≡ get_or l n 0
   next_map_first i zero l = refl
@@ -45,7 +34,7 @@ module _ (f : ℕ → ℕ → ℕ) where
 
   -- a turn of a loop that finds the next word as f leaves it
   pub still_turn : (l : List ℕ) (n : ℕ) → l ≡ map_first f 0 n l → n < length l → f n (get_or l n 0) ≡ get_or l n 0 → l ≡ map_first f 0 (n + 1) l
-  still_turn l n e h q = sym (set_own l n) ∙ turn l l n (get_or l n 0) e h (sym q)
+  still_turn l n e h q = sym (set-get_or l n 0) ∙ turn l l n (get_or l n 0) e h (sym q)
 
   whole_part : (i k : ℕ) (l : List ℕ) → map_first f i k l ≡ map_first f i (length (take k l)) (take k l) ++ drop k l
   whole_part i zero l = refl
@@ -61,10 +50,6 @@ module _ (f : ℕ → ℕ → ℕ) where
   -- a turn of a loop that changes one part after the other
   pub part_turn : (old row ys : List ℕ) (p k : ℕ) → row ≡ map_first f 0 p old → p ≤ length old → ys ≡ map_first f p (length (take k (drop p row))) (take k (drop p row)) → put_mid p k row ys ≡ map_first f 0 (p + k) old
   part_turn old row ys p k e h q = sym (next_part 0 p k old h ∙ rw (zero-add p, ← e, ← q))
-
-  -- after the last turn
-  pub all_turns : (old row : List ℕ) (n : ℕ) → row ≡ map_first f 0 n old → n ≡ length old → row ≡ map_words f old
-  all_turns old row n e h = e ∙ ap (λ (k : ℕ). map_first f 0 k old) h
 
   no_words : (i n : ℕ) → map_first f i n [] ≡ map_first f i 0 []
   no_words i zero = refl
@@ -85,12 +70,6 @@ module _ (f : ℕ → ℕ → ℕ) where
   from_start s i (suc n) (w ∷ ws) =
       ap (λ (l : List ℕ). f (s + i) w ∷ l) (ap (λ (k : ℕ). map_first f k n ws) (sym (add-suc s i)) ∙ from_start s (suc i) n ws)
 
--- a part is as long as it was asked for, or shorter
-pub part_length : (k : ℕ) (l : List ℕ) → length (take k l) ≤ k
-part_length zero l = zero-le
-part_length (suc k) [] = zero-le
-part_length (suc k) (w ∷ ws) = omega (arith, part_length k ws)
-
 -- two functions that agree on the words of a list
 pub same_words : (f g : ℕ → ℕ → ℕ) (i n : ℕ) (l : List ℕ) → ((p : ℕ) → p < i + n → (w : ℕ) → f p w ≡ g p w) → map_first f i n l ≡ map_first g i n l
 same_words f g i zero l h = refl
@@ -98,14 +77,9 @@ same_words f g i (suc n) [] h = refl
 same_words f g i (suc n) (w ∷ ws) h =
     ap (λ (x : ℕ). x ∷ map_first f (suc i) n ws) (h i (omega arith) w) ∙ ap (λ (l : List ℕ). g i w ∷ l) (same_words f g (suc i) n ws (λ (p : ℕ) a. h p (omega arith)))
 
--- a list from its two parts, and a part put back where it stood
-from_parts : (n : ℕ) (l : List ℕ) → take n l ++ drop n l ≡ l
-from_parts zero l = refl
-from_parts (suc n) [] = refl
-from_parts (suc n) (w ∷ ws) = ap (λ (l : List ℕ). w ∷ l) (from_parts n ws)
-
+-- a part put back where it stood
 part_own : (start k : ℕ) (l : List ℕ) → put_mid start k l (take k (drop start l)) ≡ l
-part_own start k l = ap (λ (ys : List ℕ). take start l ++ ys) (from_parts k (drop start l)) ∙ from_parts start l
+part_own start k l = ap (λ (ys : List ℕ). take start l ++ ys) (take-append-drop k (drop start l)) ∙ take-append-drop start l
 
 -- a turn of a loop that finds the next part as f leaves it
 pub still_part : (f : ℕ → ℕ → ℕ) (l : List ℕ) (p k : ℕ) → l ≡ map_first f 0 p l → p ≤ length l → take k (drop p l) ≡ map_first f p (length (take k (drop p l))) (take k (drop p l)) → l ≡ map_first f 0 (p + k) l

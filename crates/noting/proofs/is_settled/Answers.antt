@@ -1,4 +1,4 @@
-use Rattle.std.proofs.Common.{ℕ, List, length, ap, ◌∙◌}
+use Rattle.std.proofs.Common.{ℕ, List, ap, ◌∙◌}
 use Rattle.model.specs.Limits.{row_size}
 use Rattle.model.specs.step.Rows.{in_row}
 use Rattle.model.specs.step.Track.{note_row, note_track}

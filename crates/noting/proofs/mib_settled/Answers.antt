@@ -1,4 +1,4 @@
-use Rattle.std.proofs.Common.{◌≡◌, get_or, sym, ap, subst, ◌∙◌, arith, rules, refl}
+use Rattle.std.proofs.Common.{get_or, sym, ap, subst, ◌∙◌, arith, rules, refl}
 use Rattle.model.specs.declared.Loaded.{Loaded}
 use Rattle.model.specs.declared.Outcome.{Outcome}
 use Rattle.model.specs.step.Walk.{first_from, walk_from}

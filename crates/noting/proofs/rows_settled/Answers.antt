@@ -4,7 +4,6 @@ use Rattle.model.specs.step.Track.{note_page}
 use Rattle.noting.specs.Mib.{mib_pages}
 use Rattle.track.proofs.Rows.{still_part}
 use Rattle.noting.proofs.Mib.{by_mib}
-use Rattle.noting.proofs.Settled.{Through}
 use Rattle.noting.proofs.rows_settled.Goals as goal
 
 pub loop-mib-preserved : goal.loop-mib-preserved

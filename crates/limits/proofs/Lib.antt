@@ -1,2 +1,0 @@
--- Laws of rows of any size.
-pub mod Sizes
