@@ -3,16 +3,16 @@ use Prim.Native.Nat.{ℕ, zero, suc, ◌+◌, ◌-◌, ◌/◌, ◌%◌, ◌<◌
 use mathlib.Core.Path.{◌≡◌, refl, sym, ap, ◌∙◌}
 use mathlib.Core.List.{List}
 use native.Mathlib.Omega.{arith}
+use Rattle.std.specs.Prelude.{Ok}
 use Rattle.model.specs.declared.Access.{Access}
 use Rattle.model.specs.declared.Entry.{Entry}
-use Rattle.model.specs.declared.Outcome.{Outcome}
-use Rattle.model.specs.declared.Outcome.TheVariants.{Mapped}
 use Rattle.model.specs.declared.Purpose.{Purpose}
 use Rattle.model.specs.declared.Registers.{Registers}
 use Rattle.model.specs.declared.Ruling.{Ruling}
 use Rattle.model.specs.declared.Size.{Size}
 use Rattle.model.specs.step.Machine.{reached, granted}
 use Rattle.model.specs.step.Rights.{field_at, ruling_of}
+use Rattle.model.specs.Types.{Outcome}
 
 -- a field of a register of which nothing is left is 0
 pub zero_field : (d : ℕ) → field_at 0 d ≡ 0
@@ -31,7 +31,7 @@ last_field d i w h = ap (field_at w) (let q : d - i ≡ 0 = omega (arith, h) in 
 
 -- an access to a page that entry e maps, of which, by the field of its domain, a ruling is given
 module _ (r : Registers) (x : Purpose) (size : Size) (a : ℕ) (m : List ℕ) (e : Entry) where
-  pub granted_by : {o : Outcome} {field : ℕ} {said : Ruling} {to : Access} → o ≡ Mapped e → field ≡ field_at r.domains e.domain → said ≡ ruling_of e.ap r.mode x field e.xn → to ≡ reached said e size a m → to ≡ granted o r x size a m
+  pub granted_by : {o : Outcome} {field : ℕ} {said : Ruling} {to : Access} → o ≡ Ok e → field ≡ field_at r.domains e.domain → said ≡ ruling_of e.ap r.mode x field e.xn → to ≡ reached said e size a m → to ≡ granted o r x size a m
   granted_by of-o of_field of-said of-to =
       of-to
       ∙ ap (λ (y : Ruling). reached y e size a m) (of-said ∙ ap (λ (n : ℕ). ruling_of e.ap r.mode x n e.xn) of_field)

@@ -88,8 +88,8 @@ pub fn grant(o: Outcome, r: Registers, purpose: Purpose, size: Size, a: u32, m: 
     ensures { Tells access_result (granted o r purpose size a m.now) result }
 {
     match o {
-        Outcome::Failed(f) => Access::Fails(f),
-        Outcome::Mapped(e) => {
+        Err(f) => Access::Fails(f),
+        Ok(e) => {
             let field = field_of(r.domains, e.domain);
             let said = rulings::rule(e.ap, r.mode, purpose, field, e.xn);
             reach(said, e, size, a, m)

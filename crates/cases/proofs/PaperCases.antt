@@ -4,20 +4,20 @@ use mathlib.Core.Path.{◌≡◌, refl}
 use mathlib.Core.Bool.{true}
 use mathlib.Core.List.{List, [], ◌∷◌}
 use lib.ListN.{replicate}
+use Rattle.std.specs.Prelude.{Ok, Err}
 use Rattle.model.specs.reference.Rules.{rooted}
 use Rattle.model.specs.Limits.{page_size}
 use Rattle.model.specs.Numbers.{fault_number}
 use Rattle.model.specs.step.Walk.{walk_page}
 use Rattle.model.specs.step.Machine.{physical_of, started}
 use Rattle.model.specs.declared.Kind.TheVariants.{Read, Write, Addr}
-use Rattle.model.specs.declared.Outcome.{Outcome}
-use Rattle.model.specs.declared.Outcome.TheVariants.{Mapped, Failed}
 use Rattle.model.proofs.CaseTools.{all_match, put, zeros, image_a, next, fault_code, refusal_code, answered, track_at, tables_at}
+use Rattle.model.specs.Types.{Outcome}
 
 -- the physical address that an outcome gives an address, or the fault
 abbrev placed : Outcome → ℕ → ℕ
-placed (Mapped e) a = physical_of e a
-placed (Failed f) a = fault_code (fault_number f)
+placed (Ok e) a = physical_of e a
+placed (Err f) a = fault_code (fault_number f)
 
 -- where the tables of m at root 0 send an address
 abbrev sent : List ℕ → ℕ → ℕ

@@ -5,6 +5,7 @@ use mathlib.Core.Bool.{Bool, true, false, cond}
 use mathlib.Core.List.{List, [], ◌∷◌, ◌++◌}
 use lib.Dec.{eqb}
 use lib.ListN.{get_or, set, replicate}
+use Rattle.std.specs.Prelude.{Ok, Err}
 use Rattle.model.specs.reference.Rules.{rooted}
 use Rattle.model.specs.Numbers.{fault_number, refusal_number}
 use Rattle.model.specs.step.Memory.{number_at}
@@ -21,16 +22,14 @@ use Rattle.model.specs.declared.Kind.TheVariants.{Read, Write, Root, Asid, Mode,
 use Rattle.model.specs.declared.Fault.TheVariants.{SecondUnmapped, FirstOutside}
 use Rattle.model.specs.declared.Size.TheVariants.{Four}
 use Rattle.model.specs.declared.Purpose.TheVariants.{ToRead, ToWrite, ToFetch}
-use Rattle.model.specs.declared.FirstLevel.{FirstLevel}
-use Rattle.model.specs.declared.FirstLevel.TheVariants.{Failing, Table, Section}
-use Rattle.model.specs.declared.Outcome.{Outcome}
-use Rattle.model.specs.declared.Outcome.TheVariants.{Mapped, Failed}
+use Rattle.model.specs.declared.FirstLevel.TheVariants.{Table, Section}
 use Rattle.model.specs.declared.Check.{Check}
 use Rattle.model.specs.declared.Check.TheVariants.{Pass, Refuse}
 use Rattle.model.proofs.CaseTools.{all_match, put, zeros, image_a, next, fault_code, refusal_code, answered, track_at, tables_at}
 use Rattle.cases.proofs.SplitCases.{split_and_joined}
 use Rattle.cases.proofs.GlobalCases.{given, given_with, global_entries}
 use Rattle.cases.proofs.FetchCases.{fetches}
+use Rattle.model.specs.Types.{FirstOutcome, Outcome}
 
 -- 1 where it holds, 0 where not
 abbrev bit : Bool → ℕ
@@ -123,8 +122,8 @@ in_domain d x = x + d * 0x4000000
 
 -- an outcome: an entry or a fault
 abbrev outcome : Outcome → ℕ
-outcome (Mapped e) = in_domain e.domain (e.frame * 64 + e.ap * 8 + e.section * 4 + e.global * 2 + e.xn)
-outcome (Failed f) = fault_code (fault_number f)
+outcome (Ok e) = in_domain e.domain (e.frame * 64 + e.ap * 8 + e.section * 4 + e.global * 2 + e.xn)
+outcome (Err f) = fault_code (fault_number f)
 
 -- the outcome of a page under root 0 with this level-one word
 abbrev first : ℕ → ℕ → ℕ
@@ -139,10 +138,10 @@ abbrev second_in : ℕ → ℕ → ℕ → ℕ
 second_in d w page = outcome (walk_page (put (0x80 + 4 * (page / 256)) (1 + d * 32) (put (4 * (page % 256)) w zeros)) (tables_at 0x80) page)
 
 -- the base of the table that a level-one word points to
-abbrev table_base : FirstLevel → ℕ
-table_base (Table t) = t.base
-table_base (Section e) = 0
-table_base (Failing f) = fault_code (fault_number f)
+abbrev table_base : FirstOutcome → ℕ
+table_base (Ok (Table t)) = t.base
+table_base (Ok (Section e)) = 0
+table_base (Err f) = fault_code (fault_number f)
 
 -- Level-one words: sections, and words that map nothing.
 sections : List (ℕ × ℕ)
@@ -1004,10 +1003,10 @@ in_domains g (x ∷ xs) =
     ∷ (add_entry g w w, w)
     ∷ (add_entry g w other, 1)
     ∷ (add_entry g other w, 1)
-    ∷ (bit (stale_word g w (Mapped (entry_in x.0 x.1 g x.2))), 0)
-    ∷ (bit (stale_word g w (Mapped (entry_in 0 x.1 g x.2))), 1)
-    ∷ (bit (stale_word g other (Mapped (entry_in x.0 x.1 g x.2))), 1)
-    ∷ (bit (stale_word g w (Failed SecondUnmapped)), 1)
+    ∷ (bit (stale_word g w (Ok (entry_in x.0 x.1 g x.2))), 0)
+    ∷ (bit (stale_word g w (Ok (entry_in 0 x.1 g x.2))), 1)
+    ∷ (bit (stale_word g other (Ok (entry_in x.0 x.1 g x.2))), 1)
+    ∷ (bit (stale_word g w (Err SecondUnmapped)), 1)
     ∷ in_domains g xs
 
 -- domains 1, 2, 4, 8 and 15, of a page, of a section, and of a page with XN
@@ -1020,7 +1019,7 @@ some_domains =
 -- whether a word of a row of kind g makes stale a page with this entry, of a page and of a section
 abbrev stale_with : ℕ → ℕ → ℕ → ℕ → List (ℕ × ℕ)
 stale_with g w global xn =
-    (bit (stale_word g w (Mapped (entry1 0 global xn))), 1) ∷ (bit (stale_word g w (Mapped (entry1 1 global xn))), 1) ∷ []
+    (bit (stale_word g w (Ok (entry1 0 global xn))), 1) ∷ (bit (stale_word g w (Ok (entry1 1 global xn))), 1) ∷ []
 
 -- an odd word of a row of kind g, 0 a context's or 1 the global row, stays when an entry is added, and its page is stale whatever the
 -- tables say, even an entry with that word
@@ -1029,7 +1028,7 @@ stays_odd g [] = []
 stays_odd g (w ∷ ws) =
     (add_entry g w (0x1002 + 128 * g), w)
     ∷ (add_entry g w (0x1042 + 128 * g), w)
-    ∷ (bit (stale_word g w (Failed SecondUnmapped)), 1)
+    ∷ (bit (stale_word g w (Err SecondUnmapped)), 1)
     ∷ stale_with g w 0 0
     ++ stale_with g w 1 0
     ++ stale_with g w 0 1
@@ -1043,9 +1042,9 @@ in_row_of g =
     let word = 0x1002 + 128 * g in
     let sectionWord = 0x1102 + 128 * g in
     let xnWord = 0x1042 + 128 * g in
-    let present = Mapped (entry1 0 g 0) in
-    let ofSection = Mapped (entry1 1 g 0) in
-    let ofXn = Mapped (entry1 0 g 1) in
+    let present = Ok (entry1 0 g 0) in
+    let ofSection = Ok (entry1 1 g 0) in
+    let ofXn = Ok (entry1 0 g 1) in
     -- an entry added to an empty set, to itself, to one of another frame, of another AP, of a section, of another XN, to two
     (add_entry g 0 word, word)
     ∷ (add_entry g word word, word)
@@ -1073,13 +1072,13 @@ in_row_of g =
     ∷ (bit (stale_word g word ofXn), 1)
     ∷ (bit (stale_word g xnWord ofXn), 0)
     ∷ (bit (stale_word g 1 present), 1)
-    ∷ (bit (stale_word g 0 (Failed SecondUnmapped)), 0)
-    ∷ (bit (stale_word g word (Failed SecondUnmapped)), 1)
-    ∷ (bit (stale_word g 1 (Failed SecondUnmapped)), 1)
-    ∷ (bit (stale_word g word (Failed FirstOutside)), 1)
+    ∷ (bit (stale_word g 0 (Err SecondUnmapped)), 0)
+    ∷ (bit (stale_word g word (Err SecondUnmapped)), 1)
+    ∷ (bit (stale_word g 1 (Err SecondUnmapped)), 1)
+    ∷ (bit (stale_word g word (Err FirstOutside)), 1)
     -- and one of the other row's entries as the present outcome
-    ∷ (bit (stale_word g 0 (Mapped (entry1 0 (1 - g) 0))), 0)
-    ∷ (bit (stale_word g word (Mapped (entry1 0 (1 - g) 0))), 1)
+    ∷ (bit (stale_word g 0 (Ok (entry1 0 (1 - g) 0))), 0)
+    ∷ (bit (stale_word g word (Ok (entry1 0 (1 - g) 0))), 1)
     ∷ []
 
 -- The words of the track.

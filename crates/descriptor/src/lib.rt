@@ -7,7 +7,7 @@ ghost use Rattle.model.specs.Telling.{Tells};
 ghost use Rattle.model.specs.step.Walk.{first_domain, section_entry, large_entry, small_entry, first_of, second_of};
 ghost use Rattle.model.specs.step.WalkAnswer.{outcome_number};
 
-use model::{Entry, Fault, FirstLevel, Outcome, Pointer};
+use model::{Entry, Fault, FirstLevel, FirstOutcome, Outcome, Pointer};
 
 // The domain of a level-one word.
 fn domain_of(w: u32) -> u32
@@ -59,36 +59,29 @@ pub fn small_entry(w: u32, domain: u32) -> Entry
 }
 
 // What a level-one word says of a page.
-pub fn first_of(w: u32, page: usize) -> FirstLevel
+#[tactic(auto, unfolding(model::specs::step::Walk::first_of))]
+pub fn first_of(w: u32, page: usize) -> FirstOutcome
     ensures { Tells first_fault (first_of w page) result }
 {
-    let kind = w % 4;
-    if kind == 1 {
-        return FirstLevel::Table(Pointer {
+    let super_bit = w / 262144 % 2;
+    match (w % 4, super_bit) {
+        (1, _) => Ok(FirstLevel::Table(Pointer {
             base: w / 1024 % 4194304 * 1024,
             domain: domain_of(w),
-        });
+        })),
+        (2, 0) => Ok(FirstLevel::Section(section_entry(w, page))),
+        _ => Err(Fault::FirstUnmapped),
     }
-    if kind == 2 {
-        let super_bit = w / 262144 % 2;
-        if super_bit == 0 {
-            return FirstLevel::Section(section_entry(w, page));
-        }
-        return FirstLevel::Failing(Fault::FirstUnmapped);
-    }
-    FirstLevel::Failing(Fault::FirstUnmapped)
 }
 
 // What a level-two word says of a page, in a table of this domain.
+#[tactic(auto, unfolding(model::specs::step::Walk::second_of))]
 pub fn second_of(w: u32, page: usize, domain: u32) -> Outcome
     ensures { Tells outcome_number (second_of w page domain) result }
 {
-    let kind = w % 4;
-    if kind == 0 {
-        return Outcome::Failed(Fault::SecondUnmapped);
+    match w % 4 {
+        0 => Err(Fault::SecondUnmapped),
+        1 => Ok(large_entry(w, page, domain)),
+        _ => Ok(small_entry(w, domain)),
     }
-    if kind == 1 {
-        return Outcome::Mapped(large_entry(w, page, domain));
-    }
-    Outcome::Mapped(small_entry(w, domain))
 }

@@ -2,6 +2,8 @@
 use Prim.Native.Nat.{ℕ, ◌+◌, ◌*◌, ◌≤◌, ◌<◌}
 use native.Mathlib.Omega.{arith}
 use lib.Dec.{lit<}
+use Rattle.std.specs.Prelude.{Option, Some, None, Result, Err, ok_or, unwrap_or}
+use Rattle.std.specs.Result.{result_err}
 use Rattle.model.specs.declared.Size.TheVariants.{One, Two, Four}
 use mathlib.Core.Path.{◌≡◌, sym, ap, ◌∙◌}
 use mathlib.Core.List.{List}
@@ -9,7 +11,6 @@ use mathlib.Core.Bool.{Bool, true, false}
 use lib.ListN.{length, get_or}
 use borrow.Author.Tests.{leb-true}
 use Rattle.model.specs.declared.Size.{Size}
-use Rattle.model.specs.declared.Loaded.TheVariants.{Value, Outside}
 use Rattle.model.specs.step.Memory.{bytes_of, number_at, stored_at, within, load_at, written_at}
 
 module _ (m : List ℕ) (at : ℕ) (s : Size) (b : Bool) (w : b ≡ within s m at) where
@@ -17,11 +18,11 @@ module _ (m : List ℕ) (at : ℕ) (s : Size) (b : Bool) (w : b ≡ within s m a
   unfolding within
   fits t e h = leb-true (at + bytes_of t) (length m) (rw (← e) (sym w ∙ h))
 
-  pub loaded : (t : Size) → s ≡ t → b ≡ true → (v : ℕ) → v ≡ number_at t m at → Value v ≡ load_at s m at
+  pub loaded : (t : Size) → s ≡ t → b ≡ true → (v : ℕ) → v ≡ number_at t m at → Some v ≡ load_at s m at
   unfolding load_at
-  loaded t e h v q = rw (← w, h, e) (ap Value q)
+  loaded t e h v q = rw (← w, h, e) (ap Some q)
 
-  pub not_loaded : b ≡ false → Outside ≡ load_at s m at
+  pub not_loaded : b ≡ false → None ≡ load_at s m at
   unfolding load_at
   not_loaded h = rw (← w, h)
 
@@ -36,6 +37,10 @@ module _ (m : List ℕ) (at : ℕ) (s : Size) (b : Bool) (w : b ≡ within s m a
 -- a value that is known in two ways, under a function
 pub via : {A B : Type 0} (f : A → B) {r x y : A} → r ≡ x → r ≡ y → f y ≡ f x
 via f p q = ap f (sym q ∙ p)
+
+-- the error that `ok_or` gave, where there was no value
+pub missed : {A E : Type 0} {x : Option A} {e f : E} → ◌≡◌ {A = Result A E} (Err f) (ok_or x e) → x ≡ None → f ≡ e
+missed {A} {E} {x} {e} p q = ap (λ (r : Result A E). unwrap_or (result_err r) e) (p ∙ ap (λ (y : Option A). ok_or y e) q)
 
 pub bytes_pos : (s : Size) → 0 < bytes_of s
 bytes_pos One = lit< tt

@@ -5,7 +5,7 @@ ghost use Rattle.std.specs.Prelude.{◌≡◌, ◌+◌, ◌*◌, ◌<◌, ◌≤
 ghost use Rattle.model.specs.declared.Size.TheVariants.{One, Two, Four};
 ghost use Rattle.model.specs.step.Memory.{bytes_of, within, number_at, load_at, stored_at, written_at};
 
-use model::{Loaded, Size};
+use model::Size;
 
 // A byte as a word.
 fn wide(x: u8) -> u32
@@ -68,18 +68,18 @@ fn four(m: &[u8], at: usize) -> u32
     number(m[at], m[at + 1], m[at + 2], m[at + 3])
 }
 
-// The number of this size at `at`, or that it does not lie in memory.
-pub fn load(m: &[u8], at: usize, size: Size) -> Loaded
+// The number of this size at `at`, if it lies in memory.
+pub fn load(m: &[u8], at: usize, size: Size) -> Option<u32>
     ensures { result ≡ load_at size m.now at }
 {
     if inside(m, at, size) {
         match size {
-            Size::One => Loaded::Value(one(m, at)),
-            Size::Two => Loaded::Value(two(m, at)),
-            Size::Four => Loaded::Value(four(m, at)),
+            Size::One => Some(one(m, at)),
+            Size::Two => Some(two(m, at)),
+            Size::Four => Some(four(m, at)),
         }
     } else {
-        Loaded::Outside
+        None
     }
 }
 

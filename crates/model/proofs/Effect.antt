@@ -7,6 +7,7 @@ use native.Mathlib.Nat.{mul_comm}
 use lib.Dec.{eqb}
 use lib.ListN.{length, get_or}
 use borrow.Author.Tests.{eqb-true}
+use Rattle.std.specs.Prelude.{Ok, Err}
 use Rattle.model.specs.Limits.{page_size, old_window, row_size}
 use Rattle.model.specs.Numbers.{Result, ok, fault, refused, fault_number}
 use Rattle.model.specs.reference.Rules.{value, stored, walk, physical, permission_fault, domain_fault, ruled, ruling, State, Scope, own, global, aligned, access_size, touched, translated, access, set_registers, effect, outcome, carried_out, track_word, contexts, row_of, stale, kept, differs, among, refuses16}
@@ -17,7 +18,7 @@ use Rattle.model.specs.step.Track.{last_row, word_at, stale_word, stale_page}
 use Rattle.model.specs.step.Checks.{is_size, size_fits}
 use Rattle.model.specs.step.Machine.{tables_of, size_of, value_of, physical_of, permission_fault_of, domain_fault_of, reached, granted, decided, access_at, read_from, write_to, read_step, write_step, fetch_step, operate}
 use Rattle.model.specs.Demands.{visible}
-use Rattle.model.specs.Types.{Registers, Tables, Operation, Kind, Read, Write, Root, Asid, Mode, All, Addr, Ctx, AddrCtx, Fetch, Domain, Entry, Alignment, SectionDomain, PageDomain, SectionPermission, PagePermission, AccessOutside, Size, One, Two, Four, Purpose, ToRead, ToWrite, ToFetch, Ruling, Allowed, PermissionDenied, DomainDenied, Outcome, Mapped, Failed, Access, Stale, Fails, Physical}
+use Rattle.model.specs.Types.{Registers, Tables, Operation, Kind, Read, Write, Root, Asid, Mode, All, Addr, Ctx, AddrCtx, Fetch, Domain, Entry, Alignment, SectionDomain, PageDomain, SectionPermission, PagePermission, AccessOutside, Size, One, Two, Four, Purpose, ToRead, ToWrite, ToFetch, Ruling, Allowed, PermissionDenied, DomainDenied, Outcome, Access, Stale, Fails, Physical}
 use Rattle.model.proofs.BoolLaws.{push}
 use Rattle.model.proofs.Memory.{within_same, number_same, stored_same}
 use Rattle.model.proofs.Walk.{translation, walk_same}
@@ -102,8 +103,8 @@ reached_same DomainDenied e x size a v r m = ap (λ n. (fault n, state r m)) (do
 granted_same : (y : Outcome) (x : Purpose) (size : Size) (a v : ℕ) (r : Registers) (m : List ℕ) →
     taken x size v (state r m) (granted y r x size a m) ≡ translated x a (bytes_of size) v (state r m) (translation y)
 unfolding taken translated
-granted_same (Failed f) x size a v r m = refl
-granted_same (Mapped e) x size a v r m =
+granted_same (Err f) x size a v r m = refl
+granted_same (Ok e) x size a v r m =
     reached_same (ruling_of e.ap r.mode x (field_at r.domains e.domain) e.xn) e x size a v r m
     ∙ ap (λ y. ruled y x a (bytes_of size) v (state r m) e)
     (ruling_same e.ap r.mode x (field_at r.domains e.domain) e.xn

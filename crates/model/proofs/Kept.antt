@@ -9,6 +9,7 @@ use native.Mathlib.Omega.{arith}
 use lib.Dec.{eqb, ltb}
 use lib.ListN.{length}
 use borrow.Author.Tests.{eqb-true, eqb-false, eq-eqb, ne_eqb, ltb-true, lt-ltb}
+use Rattle.std.specs.Prelude.{Ok, Err}
 use Rattle.tlb.specs.Machine.{entry}
 use Rattle.tlb.specs.Tracker.{done, refused as refusedBy}
 use Rattle.tlb.specs.Seen.{Seen, nothing, note, spared, Stale}
@@ -23,7 +24,7 @@ use Rattle.model.specs.step.Walk.{walk_page}
 use Rattle.model.specs.step.Checks.{checks, first_failing, address_fits}
 use Rattle.model.specs.step.Machine.{After, tables_of, started}
 use Rattle.model.specs.Demands.{Call, conditions_of, after}
-use Rattle.model.specs.Types.{Setting, Operation, Kind, Read, Write, Root, Asid, Mode, All, Addr, Ctx, AddrCtx, Fetch, Domain, Entry, Refusal, Check, Pass, Refuse, Outcome, Mapped, Failed}
+use Rattle.model.specs.Types.{Setting, Operation, Kind, Read, Write, Root, Asid, Mode, All, Addr, Ctx, AddrCtx, Fetch, Domain, Entry, Refusal, Check, Pass, Refuse, Outcome}
 use Rattle.model.proofs.BoolLaws.{and_both}
 use Rattle.model.proofs.Walk.{translation, walk_same}
 use Rattle.model.proofs.Entries.{Fits, same_true, same_false, entry_discrete, decoded}
@@ -180,8 +181,8 @@ outcome_range s a e p =
     go (walk_page s.memory (tables_of s.registers) (a / page_size)) (walk_range s.memory (tables_of s.registers) (a / page_size)) (walk_same s.memory (tables_of s.registers) a ∙ p)
   where
     go : (x : Outcome) → InRange x → translation x ≡ found e → Fits e
-    go (Mapped y) h q = subst Fits (let z : y ≡ e = cc in z) h
-    go (Failed f) h q = absurd (let z : ◌≡◌ {A = Bool} true false = cc in true≢false z)
+    go (Ok y) h q = subst Fits (let z : y ≡ e = cc in z) h
+    go (Err f) h q = absurd (let z : ◌≡◌ {A = Bool} true false = cc in true≢false z)
 
 add_seen : (k : Kept) (e : Entry) (w : ℕ) → add_to k e w ≡ add_word word_of same (seen_of k) e w
 unfolding add_to add_word

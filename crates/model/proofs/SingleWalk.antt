@@ -7,6 +7,7 @@ use mathlib.Core.Option.{Option, none, some}
 use native.Mathlib.Omega.{arith}
 use lib.Dec.{eqb, leb}
 use lib.ListN.{length}
+use Rattle.std.specs.Prelude.{Ok, Err}
 use Rattle.model.specs.Limits.{page_size, old_split, old_window, memory_unit, memory_most}
 use Rattle.model.specs.Numbers.{fault_number}
 use Rattle.model.specs.reference.Rules.{among, refuses8, walk_conditions, Given, walk, translation_number, refused_walk}
@@ -14,7 +15,7 @@ use Rattle.model.specs.step.Checks.{memory_fits, root_fits, in_window}
 use Rattle.model.specs.step.Walk.{walk_page}
 use Rattle.model.specs.step.WalkAnswer.{outcome_number, walk_answer}
 use Rattle.model.specs.Demands.{SingleWalk}
-use Rattle.model.specs.Types.{Fault, Alignment, FirstUnmapped, SecondUnmapped, SectionDomain, PageDomain, SectionPermission, PagePermission, FirstOutside, SecondOutside, AccessOutside, Outcome, Mapped, Failed}
+use Rattle.model.specs.Types.{Fault, Alignment, FirstUnmapped, SecondUnmapped, SectionDomain, PageDomain, SectionPermission, PagePermission, FirstOutside, SecondOutside, AccessOutside, Outcome}
 use Rattle.model.proofs.BoolLaws.{three_and}
 use Rattle.model.proofs.Checks.{window_test, root_test}
 use Rattle.model.proofs.Walk.{translation, walk_same}
@@ -29,8 +30,8 @@ number_by none n = n
 -- what a walk finds, as a number: the step's is the reference's
 outcome_same : (x : Outcome) → InRange x → outcome_number x ≡ translation_number (translation x)
 unfolding translation_number
-outcome_same (Mapped e) h = word_same e h
-outcome_same (Failed f) h = refl
+outcome_same (Ok e) h = word_same e h
+outcome_same (Err f) h = refl
 
 -- it is below every refusal
 fault_small : (f : Fault) → fault_number f < 16
@@ -46,8 +47,8 @@ fault_small SecondOutside = omega arith
 fault_small AccessOutside = omega arith
 
 outcome_small : (x : Outcome) → outcome_number x < 0x200000000
-outcome_small (Mapped e) = omega arith
-outcome_small (Failed f) = omega (arith, fault_small f)
+outcome_small (Ok e) = omega arith
+outcome_small (Err f) = omega (arith, fault_small f)
 
 module _ (m : List ℕ) (root a : ℕ) where
   -- the outcome of the walk, as a number

@@ -6,19 +6,20 @@ use mathlib.Core.List.{List}
 use native.Mathlib.Omega.{arith}
 use lib.Dec.{eqb}
 use borrow.Author.Tests.{eqb-true, eqb-false}
+use Rattle.std.specs.Prelude.{Some, None, Ok, Err}
 use Rattle.model.specs.Limits.{page_size, section_size}
 use Rattle.model.specs.Numbers.{fault_number}
 use Rattle.model.specs.reference.Rules.{Translation, found, failed, value, bits, descriptor, global_by, domain_of, section, large_page, small_page, page_word, table_word, walk}
 use Rattle.model.specs.step.Memory.{within, number_at, load_at}
 use Rattle.model.specs.step.Walk.{kind_of, super_bit, pointer_of, first_domain, section_entry, large_entry, small_entry, descriptor_at, first_of, first_from, first_at, second_of, second_from, second_at, walk_from, walk_page}
-use Rattle.model.specs.Types.{Entry, FirstUnmapped, SecondUnmapped, Four, Value, Outside, Pointer, Failing, Table, Section, Tables, Outcome, Mapped, Failed}
+use Rattle.model.specs.Types.{Entry, FirstUnmapped, SecondUnmapped, Four, Pointer, Table, Section, Tables, Outcome}
 use Rattle.model.proofs.BoolLaws.{push}
 use Rattle.model.proofs.Memory.{within_same, number_same}
 
 -- an outcome as the reference has it
 abbrev pub translation : Outcome → Translation
-translation (Mapped e) = found e
-translation (Failed f) = failed (fault_number f)
+translation (Ok e) = found e
+translation (Err f) = failed (fault_number f)
 
 -- an nG bit
 global_same : (x : ℕ) → x < 2 → 1 - x ≡ global_by x
@@ -52,7 +53,7 @@ kind_same w = omega arith
 
 -- level two
 second_tests : (a d w : ℕ) (x y : Bool) →
-    translation (cond x (Failed SecondUnmapped) (cond y (Mapped (large_entry w (a / page_size) d)) (Mapped (small_entry w d))))
+    translation (cond x (Err SecondUnmapped) (cond y (Ok (large_entry w (a / page_size) d)) (Ok (small_entry w d))))
     ≡ cond x (failed 0x7) (cond y (found (large_page a d w)) (found (small_page d w)))
 second_tests a d w true y = refl
 second_tests a d w false true = ap found (large_same a d w)
@@ -68,7 +69,7 @@ unfolding second_at descriptor load_at
 second_at_same m p a =
     let at : ℕ = p.base + 4 * (a / page_size % 256) in
     let d : ℕ = p.domain in
-    push (λ x. translation (second_from x (a / page_size) d)) (within Four m at) (Value (number_at Four m at)) Outside
+    push (λ x. translation (second_from x (a / page_size) d)) (within Four m at) (Some (number_at Four m at)) None
     ∙ ap (λ n. cond (within Four m at) n (failed 0xe)) (second_same a d (number_at Four m at) ∙ ap (page_word a d) (number_same Four m at))
     ∙ ap (λ b. cond b (page_word a d (value m at 4)) (failed 0xe)) (within_same Four m at)
 
@@ -86,7 +87,7 @@ unfolding bits
 super_same w = refl
 
 first_tests : (m : List ℕ) (a w : ℕ) (x y z : Bool) →
-    translation (walk_from (cond x (Table (pointer_of w)) (cond y (cond z (Section (section_entry w (a / page_size))) (Failing FirstUnmapped)) (Failing FirstUnmapped))) m (a / page_size))
+    translation (walk_from (cond x (Ok (Table (pointer_of w))) (cond y (cond z (Ok (Section (section_entry w (a / page_size)))) (Err FirstUnmapped)) (Err FirstUnmapped))) m (a / page_size))
     ≡ cond x (descriptor m (bits 31 10 w * 1024 + 4 * (a / page_size % 256)) 0xe (page_word a (domain_of w))) (cond (y && z) (found (section a w)) (failed 0x5))
 unfolding domain_of bits
 first_tests m a w true y z = second_at_same m (pointer_of w) a
@@ -106,6 +107,6 @@ unfolding walk_page first_at walk descriptor load_at
 walk_same m tables a =
     let at : ℕ = tables.root + 4 * (a / section_size) in
     ap (λ i. translation (walk_from (first_from (descriptor_at m i) (a / page_size)) m (a / page_size))) (place_same tables.root a)
-    ∙ push (λ x. translation (walk_from (first_from x (a / page_size)) m (a / page_size))) (within Four m at) (Value (number_at Four m at)) Outside
+    ∙ push (λ x. translation (walk_from (first_from x (a / page_size)) m (a / page_size))) (within Four m at) (Some (number_at Four m at)) None
     ∙ ap (λ n. cond (within Four m at) n (failed 0xc)) (first_same m a (number_at Four m at) ∙ ap (table_word m a) (number_same Four m at))
     ∙ ap (λ b. cond b (table_word m a (value m at 4)) (failed 0xc)) (within_same Four m at)

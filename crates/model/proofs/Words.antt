@@ -6,19 +6,20 @@ use mathlib.Core.List.{List}
 use native.Mathlib.Omega.{arith}
 use lib.Dec.{eqb, ltb}
 use borrow.Author.Tests.{eqb-true, eqb-false, eq-eqb, ne_eqb, ltb-true, ltb-false}
+use Rattle.std.specs.Prelude.{Option, Some, None, Ok, Err}
 use Rattle.model.specs.Limits.{word_limit}
 use Rattle.model.specs.Numbers.{fault_number}
 use Rattle.model.specs.reference.Rules.{Translation, found, failed, bits, Scope, own, global, scope_of, covers, same_scope, empty, one, several, word_of, entry_of, suits, kept, same, add_to, noted, differs}
 use Rattle.model.specs.step.Walk.{kind_of, super_bit, pointer_of, first_domain, first_of, first_from, first_at, second_of, second_from, second_at, walk_from, walk_page, section_entry, large_entry, small_entry, descriptor_at}
 use Rattle.model.specs.step.Track.{entry_word, is_entry, add_entry, add_outcome, stale_word}
-use Rattle.model.specs.Types.{Entry, FirstUnmapped, SecondUnmapped, Loaded, Value, Outside, Failing, Table, Section, Tables, Outcome, Mapped, Failed}
+use Rattle.model.specs.Types.{Entry, FirstUnmapped, SecondUnmapped, Table, Section, Tables, Outcome}
 use Rattle.model.proofs.BoolLaws.{same_test, eqb_same, either, and_both}
 use Rattle.model.proofs.Entries.{Fits, same_true, same_self, decoded}
 use Rattle.model.proofs.Walk.{translation}
 
 abbrev pub InRange : Outcome → Type 0
-InRange (Mapped e) = Fits e
-InRange (Failed f) = Unit {0}
+InRange (Ok e) = Fits e
+InRange (Err f) = Unit {0}
 
 -- ── Each entry that a walk finds is in range ──
 
@@ -35,29 +36,29 @@ second_range : (w page d : ℕ) → d < 16 → InRange (second_of w page d)
 unfolding second_of
 second_range w page d h = go (eqb (kind_of w) 0) (eqb (kind_of w) 1)
   where
-    go : (x y : Bool) → InRange (cond x (Failed SecondUnmapped) (cond y (Mapped (large_entry w page d)) (Mapped (small_entry w d))))
+    go : (x y : Bool) → InRange (cond x (Err SecondUnmapped) (cond y (Ok (large_entry w page d)) (Ok (small_entry w d))))
     go true y = tt
     go false true = large_fits w page d h
     go false false = small_fits w d h
 
-second_from_lem : (x : Loaded) (page d : ℕ) → d < 16 → InRange (second_from x page d)
-second_from_lem (Value w) page d h = second_range w page d h
-second_from_lem Outside page d h = tt
+second_from_lem : (x : Option ℕ) (page d : ℕ) → d < 16 → InRange (second_from x page d)
+second_from_lem (Some w) page d h = second_range w page d h
+second_from_lem None page d h = tt
 
 first_range : (m : List ℕ) (w page : ℕ) → InRange (walk_from (first_of w page) m page)
 unfolding first_of second_at
 first_range m w page = go (eqb (kind_of w) 1) (eqb (kind_of w) 2) (eqb (super_bit w) 0)
   where
     go : (x y z : Bool) →
-        InRange (walk_from (cond x (Table (pointer_of w)) (cond y (cond z (Section (section_entry w page)) (Failing FirstUnmapped)) (Failing FirstUnmapped))) m page)
+        InRange (walk_from (cond x (Ok (Table (pointer_of w))) (cond y (cond z (Ok (Section (section_entry w page))) (Err FirstUnmapped)) (Err FirstUnmapped))) m page)
     go true y z = second_from_lem (descriptor_at m ((pointer_of w).base + 4 * (page % 256))) page (first_domain w) (omega arith)
     go false true true = section_fits w page
     go false true false = tt
     go false false z = tt
 
-first_from_lem : (m : List ℕ) (x : Loaded) (page : ℕ) → InRange (walk_from (first_from x page) m page)
-first_from_lem m (Value w) page = first_range m w page
-first_from_lem m Outside page = tt
+first_from_lem : (m : List ℕ) (x : Option ℕ) (page : ℕ) → InRange (walk_from (first_from x page) m page)
+first_from_lem m (Some w) page = first_range m w page
+first_from_lem m None page = tt
 
 pub walk_range : (m : List ℕ) (tables : Tables) (page : ℕ) → InRange (walk_page m tables page)
 unfolding walk_page first_at
@@ -190,10 +191,10 @@ add_same u w e h = rw (single_same u w) (go (eqb w 0) (single u w) refl)
 
 pub note_same : (u : Scope) (c w : ℕ) (x : Outcome) → InRange x → covers u c ≡ true → add_outcome (row_kind u) w x ≡ noted u c (translation x) w
 unfolding noted
-note_same u c w (Mapped e) h p =
+note_same u c w (Ok e) h p =
     ap (λ n. cond (eqb e.global (row_kind u)) n w) (add_same u w e h)
     ∙ ap (λ b. cond b (add_to (kept u w) e w) w) (sym (in_row u c e h p))
-note_same u c w (Failed f) h p = refl
+note_same u c w (Err f) h p = refl
 
 -- a word of a row that the context does not use stays as it is
 pub noted_elsewhere : (u : Scope) (c w : ℕ) (x : Translation) → covers u c ≡ false → noted u c x w ≡ w
@@ -222,7 +223,7 @@ other_kind u x e s g = go (same x e) refl
     go false p = refl
     go true p = absurd (true≢false (sym s ∙ ap (suits u) (same_true x e p) ∙ suits_kind u e ∙ g))
 
-stale_entry : (u : Scope) (w : ℕ) (e : Entry) → Fits e → stale_word (row_kind u) w (Mapped e) ≡ differs (kept u w) (found e)
+stale_entry : (u : Scope) (w : ℕ) (e : Entry) → Fits e → stale_word (row_kind u) w (Ok e) ≡ differs (kept u w) (found e)
 unfolding stale_word kept differs
 stale_entry u w e h = go (eqb w 0) (single u w) (eqb e.global (row_kind u)) refl refl
   where
@@ -245,5 +246,5 @@ stale_failed u w n = go (eqb w 0) (single u w)
 
 pub stale_same : (u : Scope) (w : ℕ) (x : Outcome) → InRange x → stale_word (row_kind u) w x ≡ differs (kept u w) (translation x)
 unfolding stale_word
-stale_same u w (Mapped e) h = stale_entry u w e h
-stale_same u w (Failed f) h = stale_failed u w (fault_number f)
+stale_same u w (Ok e) h = stale_entry u w e h
+stale_same u w (Err f) h = stale_failed u w (fault_number f)

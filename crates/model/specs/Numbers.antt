@@ -1,7 +1,7 @@
 -- The numbers that the rules give to kinds, faults and refusals, and what an answer shows.
-use Rattle.std.specs.Prelude.{ℕ}
+use Rattle.std.specs.Prelude.{ℕ, Ok, Err}
 use Rattle.std.proofs.Math.Option.{Option, none, some}
-use Rattle.model.specs.Types.{Kind, Read, Write, Root, Asid, Mode, All, Addr, Ctx, AddrCtx, Fetch, Domain, Fault, Alignment, FirstUnmapped, SecondUnmapped, SectionDomain, PageDomain, SectionPermission, PagePermission, FirstOutside, SecondOutside, AccessOutside, Refusal, WrongSize, WrongAddress, WrongValue, WrongRoot, WrongContext, WrongMode, WrongLengths, WrongRegisters, UserMode, StalePage, WrongDomains, NotContext0, Answer, Done, Faulted, Refused, Check, Pass, Refuse, FirstLevel, Failing, Table, Section, Access, Stale, Fails, Physical}
+use Rattle.model.specs.Types.{Kind, Read, Write, Root, Asid, Mode, All, Addr, Ctx, AddrCtx, Fetch, Domain, Fault, Alignment, FirstUnmapped, SecondUnmapped, SectionDomain, PageDomain, SectionPermission, PagePermission, FirstOutside, SecondOutside, AccessOutside, Refusal, WrongSize, WrongAddress, WrongValue, WrongRoot, WrongContext, WrongMode, WrongLengths, WrongRegisters, UserMode, StalePage, WrongDomains, NotContext0, Answer, Done, Faulted, Refused, Check, Pass, Refuse, FirstOutcome, Table, Section, Access, Stale, Fails, Physical}
 
 -- the place of a kind in the rules' list of operations
 abbrev pub kind_number : Kind → ℕ
@@ -61,10 +61,10 @@ check_number Pass = none
 check_number (Refuse r) = some (refusal_number r)
 
 -- the status code of a level-one word that maps nothing; none for a table or a section
-abbrev pub first_fault : FirstLevel → Option ℕ
-first_fault (Failing f) = some (fault_number f)
-first_fault (Table p) = none
-first_fault (Section e) = none
+abbrev pub first_fault : FirstOutcome → Option ℕ
+first_fault (Err f) = some (fault_number f)
+first_fault (Ok (Table p)) = none
+first_fault (Ok (Section e)) = none
 
 -- the result that an access ends with: refusal 16 of a stale page, or its fault; none where it reaches bytes, which has no result yet
 abbrev pub access_result : Access → Option Result

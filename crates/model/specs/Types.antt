@@ -1,4 +1,5 @@
 -- The types of src/lib.rt and their constructors, under one roof.
+use Rattle.std.specs.Prelude.{Result}
 pub use Rattle.model.specs.declared.Registers.{Registers}
 pub use Rattle.model.specs.declared.Setting.{Setting}
 pub use Rattle.model.specs.declared.Kind.{Kind}
@@ -16,17 +17,20 @@ pub use Rattle.model.specs.declared.Size.{Size}
 pub use Rattle.model.specs.declared.Size.TheVariants.{One, Two, Four}
 pub use Rattle.model.specs.declared.Purpose.{Purpose}
 pub use Rattle.model.specs.declared.Purpose.TheVariants.{ToRead, ToWrite, ToFetch}
-pub use Rattle.model.specs.declared.Loaded.{Loaded}
-pub use Rattle.model.specs.declared.Loaded.TheVariants.{Value, Outside}
 pub use Rattle.model.specs.declared.Ruling.{Ruling}
 pub use Rattle.model.specs.declared.Ruling.TheVariants.{Allowed, PermissionDenied, DomainDenied}
 pub use Rattle.model.specs.declared.Pointer.{Pointer}
 pub use Rattle.model.specs.declared.FirstLevel.{FirstLevel}
-pub use Rattle.model.specs.declared.FirstLevel.TheVariants.{Failing, Table, Section}
+pub use Rattle.model.specs.declared.FirstLevel.TheVariants.{Table, Section}
 pub use Rattle.model.specs.declared.Tables.{Tables}
-pub use Rattle.model.specs.declared.Outcome.{Outcome}
-pub use Rattle.model.specs.declared.Outcome.TheVariants.{Mapped, Failed}
 pub use Rattle.model.specs.declared.Check.{Check}
 pub use Rattle.model.specs.declared.Check.TheVariants.{Pass, Refuse}
 pub use Rattle.model.specs.declared.Access.{Access}
 pub use Rattle.model.specs.declared.Access.TheVariants.{Stale, Fails, Physical}
+
+-- what level one says of a page, and what the walk of a page finds: the aliases of src/lib.rt
+abbrev pub FirstOutcome : Type 0
+FirstOutcome = Result FirstLevel Fault
+
+abbrev pub Outcome : Type 0
+Outcome = Result Entry Fault

@@ -61,36 +61,36 @@ pub struct Entry {
     pub domain: u32,
 }
 
-// Why an operation carried out gave no value.
+// Why an operation carried out gave no value, with its short-descriptor status code.
 #[derive(Clone, Copy)]
 pub enum Fault {
-    Alignment,
-    FirstUnmapped,
-    SecondUnmapped,
-    SectionDomain,
-    PageDomain,
-    SectionPermission,
-    PagePermission,
-    FirstOutside,
-    SecondOutside,
-    AccessOutside,
+    Alignment = 1,
+    FirstUnmapped = 5,
+    SecondUnmapped = 7,
+    SectionDomain = 9,
+    PageDomain = 0xb,
+    SectionPermission = 0xd,
+    PagePermission = 0xf,
+    FirstOutside = 0xc,
+    SecondOutside = 0xe,
+    AccessOutside = 8,
 }
 
-// Why an operation or a start was turned back.
+// Why an operation or a start was turned back, with its number in the rules.
 #[derive(Clone, Copy)]
 pub enum Refusal {
-    WrongSize,
-    WrongAddress,
-    WrongValue,
-    WrongRoot,
-    WrongContext,
-    WrongMode,
-    WrongLengths,
-    WrongRegisters,
-    UserMode,
-    StalePage,
-    WrongDomains,
-    NotContext0,
+    WrongSize = 7,
+    WrongAddress = 8,
+    WrongValue = 9,
+    WrongRoot = 10,
+    WrongContext = 11,
+    WrongMode = 12,
+    WrongLengths = 13,
+    WrongRegisters = 14,
+    UserMode = 15,
+    StalePage = 16,
+    WrongDomains = 17,
+    NotContext0 = 20,
 }
 
 // What a start or an operation answers: carried out with a value, carried out with a fault, or turned back.
@@ -124,13 +124,6 @@ pub enum Purpose {
     ToFetch,
 }
 
-// What reading a number in memory finds.
-#[derive(Clone, Copy)]
-pub enum Loaded {
-    Value(u32),
-    Outside,
-}
-
 // What an entry's domain, access permissions and XN bit say of an access.
 #[derive(Clone, Copy)]
 pub enum Ruling {
@@ -146,13 +139,15 @@ pub struct Pointer {
     pub domain: u32,
 }
 
-// What the level-one descriptor of a page says.
+// Where the level-one descriptor of a page leads, if it maps anything: to a level-two table, or to the entry of a section.
 #[derive(Clone, Copy)]
 pub enum FirstLevel {
-    Failing(Fault),
     Table(Pointer),
     Section(Entry),
 }
+
+// What level one says of a page.
+pub type FirstOutcome = Result<FirstLevel, Fault>;
 
 // What a walk needs to know of the tables beside memory: the address of the level-one table.
 #[derive(Clone, Copy)]
@@ -161,11 +156,7 @@ pub struct Tables {
 }
 
 // What the walk of a page finds.
-#[derive(Clone, Copy)]
-pub enum Outcome {
-    Mapped(Entry),
-    Failed(Fault),
-}
+pub type Outcome = Result<Entry, Fault>;
 
 // Whether the checks before an access let an operation pass.
 #[derive(Clone, Copy)]

@@ -6,10 +6,9 @@ use native.Mathlib.Omega.{arith}
 use native.Mathlib.Nat.{add-zero}
 use lib.ListN.{length, take}
 use Rattle.model.specs.declared.Size.TheVariants.{Four}
-use Rattle.model.specs.declared.Loaded.{Loaded}
-use Rattle.model.specs.declared.Loaded.TheVariants.{Value, Outside}
-use Rattle.model.specs.declared.FirstLevel.{FirstLevel}
-use Rattle.model.specs.declared.FirstLevel.TheVariants.{Failing, Table, Section}
+use Rattle.std.specs.Prelude.{Option, Some, None, Ok, Err}
+use Rattle.model.specs.Types.{FirstOutcome}
+use Rattle.model.specs.declared.FirstLevel.TheVariants.{Table, Section}
 use Rattle.model.specs.declared.Tables.{Tables}
 use Rattle.model.specs.step.Memory.{load_at}
 use Rattle.model.specs.step.Rows.{map_first, map_words}
@@ -25,23 +24,23 @@ module _ (p q : ℕ) (e : p % mib_pages ≡ q % mib_pages) where
   unfolding second_of
   second_same x d = let in-large : p % 16 ≡ q % 16 = omega (arith, e) in rw in-large
 
-  second_from_same : (x : Loaded) (d : ℕ) → second_from x p d ≡ second_from x q d
-  second_from_same (Value x) d = second_same x d
-  second_from_same Outside d = refl
+  second_from_same : (x : Option ℕ) (d : ℕ) → second_from x p d ≡ second_from x q d
+  second_from_same (Some x) d = second_same x d
+  second_from_same None d = refl
 
-  first_same : (x : Loaded) → first_from x p ≡ first_from x q
+  first_same : (x : Option ℕ) → first_from x p ≡ first_from x q
   unfolding first_of
-  first_same (Value x) = rw e
-  first_same Outside = refl
+  first_same (Some x) = rw e
+  first_same None = refl
 
-  walk_from_same : (m : List ℕ) (y : FirstLevel) → walk_from y m p ≡ walk_from y m q
+  walk_from_same : (m : List ℕ) (y : FirstOutcome) → walk_from y m p ≡ walk_from y m q
   unfolding second_at
-  walk_from_same m (Failing f) = refl
-  walk_from_same m (Table t) = rw e (second_from_same (descriptor_at m (t.base + 4 * (q % mib_pages))) t.domain)
-  walk_from_same m (Section s) = refl
+  walk_from_same m (Err f) = refl
+  walk_from_same m (Ok (Table t)) = rw e (second_from_same (descriptor_at m (t.base + 4 * (q % mib_pages))) t.domain)
+  walk_from_same m (Ok (Section s)) = refl
 
-  walk_same : (m : List ℕ) (x : Loaded) → walk_from (first_from x p) m p ≡ walk_from (first_from x q) m q
-  walk_same m x = walk_from_same m (first_from x p) ∙ ap (λ (y : FirstLevel). walk_from y m q) (first_same x)
+  walk_same : (m : List ℕ) (x : Option ℕ) → walk_from (first_from x p) m p ≡ walk_from (first_from x q) m q
+  walk_same m x = walk_from_same m (first_from x p) ∙ ap (λ (y : FirstOutcome). walk_from y m q) (first_same x)
 
 -- page i of a MiB, by the level-one descriptor of that MiB
 one_page : (m : List ℕ) (tables : Tables) (g mib i w : ℕ) → i < mib_pages → note_page m tables g (mib * mib_pages + i) w ≡ note_mib m (tables.root + 4 * mib) g i w
@@ -59,6 +58,6 @@ by_mib m tables g mib start k rest z n =
     ap (λ (s : ℕ). map_first (note_page m tables g) s (length l) l) (z ∙ sym (add-zero (mib * mib_pages))) ∙ from_start (note_page m tables g) (mib * mib_pages) 0 (length l) l ∙ same_words (λ (i : ℕ). note_page m tables g (mib * mib_pages + i)) (note_mib m (tables.root + 4 * mib) g) 0 (length l) l (λ (i : ℕ) a (w : ℕ). one_page m tables g mib i w (omega (arith, a, n, length-take k rest)))
 
 -- the pages of a level-one descriptor that lies outside memory stay as they are
-pub by_none : (m : List ℕ) (at g : ℕ) (l : List ℕ) → Outside ≡ load_at Four m at → l ≡ map_words (note_mib m at g) l
+pub by_none : (m : List ℕ) (at g : ℕ) (l : List ℕ) → None ≡ load_at Four m at → l ≡ map_words (note_mib m at g) l
 by_none m at g l h =
-    rest_stays (note_mib m at g) 0 0 l (λ (i : ℕ) a b (w : ℕ). ap (λ (v : Loaded). add_outcome g w (walk_from (first_from v i) m i)) h)
+    rest_stays (note_mib m at g) 0 0 l (λ (i : ℕ) a b (w : ℕ). ap (λ (v : Option ℕ). add_outcome g w (walk_from (first_from v i) m i)) h)

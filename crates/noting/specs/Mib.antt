@@ -3,7 +3,7 @@ use Rattle.std.specs.Prelude.{ℕ, ◌+◌, ◌*◌, ◌≡◌, min, List}
 use Rattle.model.specs.step.Rows.{map_words}
 use Rattle.model.specs.step.Walk.{descriptor_at, first_from, walk_from}
 use Rattle.model.specs.step.Track.{add_outcome}
-use Rattle.model.specs.declared.Outcome.{Outcome}
+use Rattle.model.specs.Types.{Outcome}
 
 -- how many pages a MiB has
 abbrev pub mib_pages : ℕ

@@ -13,7 +13,7 @@ ghost use Rattle.noting.specs.Mib.{note_mib, IsMibRange, Stays, Both};
 use descriptor::first_of;
 use limits::{last_row, row_range};
 use memory::load;
-use model::{FirstLevel, Loaded, Outcome, Size, Tables};
+use model::{FirstLevel, Outcome, Size, Tables};
 use std::ops::Range;
 use track::add_entry;
 use walk::level_two;
@@ -26,14 +26,8 @@ pub fn add_outcome(global: u32, w: u32, o: Outcome) -> u32
     ensures { result ≡ add_outcome global w o }
 {
     match o {
-        Outcome::Mapped(e) => {
-            if e.global == global {
-                add_entry(global, w, walk::entry_word(e))
-            } else {
-                w
-            }
-        }
-        Outcome::Failed(_) => w,
+        Ok(e) if e.global == global => add_entry(global, w, walk::entry_word(e)),
+        _ => w,
     }
 }
 
@@ -41,9 +35,8 @@ pub fn add_outcome(global: u32, w: u32, o: Outcome) -> u32
 fn found(m: &[u8], x: u32, page: usize) -> Outcome
     ensures { result ≡ walk_from (first_of x page) m.now page }
 {
-    match first_of(x, page) {
-        FirstLevel::Failing(f) => Outcome::Failed(f),
-        FirstLevel::Section(e) => Outcome::Mapped(e),
+    match first_of(x, page)? {
+        FirstLevel::Section(e) => Ok(e),
         FirstLevel::Table(table) => level_two(m, table, page),
     }
 }
@@ -52,7 +45,7 @@ fn found(m: &[u8], x: u32, page: usize) -> Outcome
 fn note_mib(m: &[u8], at: usize, global: u32, mib: &mut [u32])
     ensures { mib.new ≡ map_words (note_mib m.now at global) mib.old }
 {
-    if let Loaded::Value(x) = load(m, at, Size::Four) {
+    if let Some(x) = load(m, at, Size::Four) {
         for i in 0..mib.len() {
             mib[i] = add_outcome(global, mib[i], found(m, x, i));
         }
@@ -95,11 +88,11 @@ fn stays(own: u32, shared: u32, o: Outcome) -> bool
     ensures { result ≡ true → Stays own shared o }
 {
     match o {
-        Outcome::Mapped(e) => {
+        Ok(e) => {
             let w = if e.global == 1 { shared } else { own };
             add_entry(e.global, w, walk::entry_word(e)) == w
         }
-        Outcome::Failed(_) => true,
+        Err(_) => true,
     }
 }
 
@@ -108,7 +101,7 @@ fn mib_settled(m: &[u8], at: usize, own: &[u32], shared: &[u32]) -> bool
     requires { length shared.now ≡ length own.now }
     ensures { result ≡ true → Both (note_mib m.now at) own.now shared.now }
 {
-    if let Loaded::Value(x) = load(m, at, Size::Four) {
+    if let Some(x) = load(m, at, Size::Four) {
         for i in 0..own.len() {
             if !stays(own[i], shared[i], found(m, x, i)) {
                 return false;

@@ -8,7 +8,7 @@ ghost use Rattle.runs.specs.Quiet.{overlap, touches_table, touches_tables, quiet
 
 use descriptor::first_of;
 use memory::{bytes, load};
-use model::{FirstLevel, Loaded, Size, Tables};
+use model::{FirstLevel, FirstOutcome, Size, Tables};
 
 // Whether the n bytes from a on and the k bytes from b on have one in common.
 fn overlaps(a: usize, n: usize, b: usize, k: usize) -> bool
@@ -21,13 +21,12 @@ fn overlaps(a: usize, n: usize, b: usize, k: usize) -> bool
 }
 
 // Whether the n bytes from `at` on touch the table that a level-one word points to, if it points to one.
-fn touches_table(x: FirstLevel, at: usize, n: usize) -> bool
+fn touches_table(x: FirstOutcome, at: usize, n: usize) -> bool
     ensures { result ≡ touches_table x at n }
 {
     match x {
-        FirstLevel::Failing(_) => false,
-        FirstLevel::Section(_) => false,
-        FirstLevel::Table(table) => overlaps(at, n, table.base as usize, 1024), // table_size
+        Ok(FirstLevel::Table(table)) => overlaps(at, n, table.base as usize, 1024), // table_size
+        _ => false,
     }
 }
 
@@ -36,8 +35,8 @@ fn touches_mib(m: &[u8], first: usize, at: usize, n: usize) -> bool
     ensures { result ≡ touches_table (first_from (descriptor_at m.now first) 0) at n }
 {
     match load(m, first, Size::Four) {
-        Loaded::Value(w) => touches_table(first_of(w, 0), at, n),
-        Loaded::Outside => false,
+        Some(w) => touches_table(first_of(w, 0), at, n),
+        None => false,
     }
 }
 

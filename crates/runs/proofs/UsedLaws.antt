@@ -8,6 +8,7 @@ use native.Mathlib.Omega.{arith}
 use lib.Dec.{eqb, ltb}
 use lib.ListN.{length}
 use borrow.Author.Tests.{ltb-true, ltb-false, eqb-true, eqb-false, eq-eqb, not-true}
+use Rattle.std.specs.Prelude.{Some, None, Ok, Err}
 use Rattle.model.specs.Limits.{address_limit}
 use Rattle.model.specs.reference.Rules.{in_memory, value, bits}
 use Rattle.model.specs.step.Memory.{within, number_at, load_at}
@@ -15,8 +16,7 @@ use Rattle.model.specs.step.Walk.{kind_of, super_bit, pointer_of, section_entry,
 use Rattle.model.specs.declared.Tables.{Tables}
 use Rattle.model.specs.declared.Fault.TheVariants.{FirstUnmapped}
 use Rattle.model.specs.declared.Size.TheVariants.{Four}
-use Rattle.model.specs.declared.Loaded.TheVariants.{Value, Outside}
-use Rattle.model.specs.declared.FirstLevel.TheVariants.{Failing, Table, Section}
+use Rattle.model.specs.declared.FirstLevel.TheVariants.{Table, Section}
 use Rattle.model.proofs.BoolLaws.{push}
 use Rattle.model.proofs.Memory.{within_same, number_same}
 use Rattle.runs.specs.Used.{window_words, word_size, table_size, first_place, table_base, Among, Serves, first_word, of_table, Untouched}
@@ -73,7 +73,7 @@ overlap_false a n b k h x i j = go (ltb a b) refl h
 -- ── What the walks of a MiB use ──
 
 by_first : (at n w : ℕ) (x y z : Bool) →
-    touches_table (cond x (Table (pointer_of w)) (cond y (cond z (Section (section_entry w 0)) (Failing FirstUnmapped)) (Failing FirstUnmapped))) at n
+    touches_table (cond x (Ok (Table (pointer_of w))) (cond y (cond z (Ok (Section (section_entry w 0))) (Err FirstUnmapped)) (Err FirstUnmapped))) at n
     ≡ cond x (overlap at n (pointer_of w).base table_size) false
 by_first at n w true y z = refl
 by_first at n w false true true = refl
@@ -95,7 +95,7 @@ table_same : (m : List ℕ) (first at n : ℕ) →
     touches_table (first_from (descriptor_at m first) 0) at n ≡ cond (in_memory m first word_size) (table_test (value m first word_size) at n) false
 unfolding load_at
 table_same m first at n =
-    push (λ x. touches_table (first_from x 0) at n) (within Four m first) (Value (number_at Four m first)) Outside
+    push (λ x. touches_table (first_from x 0) at n) (within Four m first) (Some (number_at Four m first)) None
     ∙ ap (λ x. cond (within Four m first) x false) (by_word at n (number_at Four m first) ∙ ap (λ w. table_test w at n) (number_same Four m first))
     ∙ ap (λ b. cond b (table_test (value m first word_size) at n) false) (within_same Four m first)
 

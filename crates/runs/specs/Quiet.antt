@@ -1,20 +1,20 @@
 -- Whether a store is quiet: it touches no byte that a present walk uses. The test goes over the level-one words of the window alone.
-use Rattle.std.specs.Prelude.{ℕ, zero, suc, ◌*◌, ◌-◌, Bool, true, false, cond, not, List, ltb}
+use Rattle.std.specs.Prelude.{ℕ, zero, suc, ◌*◌, ◌-◌, Bool, true, false, cond, not, List, ltb, Ok, Err}
 use Rattle.model.specs.step.Walk.{descriptor_at, first_from}
 use Rattle.model.specs.declared.Tables.{Tables}
-use Rattle.model.specs.declared.FirstLevel.{FirstLevel}
-use Rattle.model.specs.declared.FirstLevel.TheVariants.{Failing, Table, Section}
+use Rattle.model.specs.declared.FirstLevel.TheVariants.{Table, Section}
 use Rattle.runs.specs.Used.{word_size, table_size, first_place}
+use Rattle.model.specs.Types.{FirstOutcome}
 
 -- whether the n bytes from a on and the k bytes from b on have one in common
 unfoldable pub overlap : ℕ → ℕ → ℕ → ℕ → Bool
 overlap a n b k = cond (ltb a b) (ltb (b - a) n) (ltb (a - b) k)
 
 -- whether the n bytes from `at` on touch the table that a level-one word points to, if it points to one
-abbrev pub touches_table : FirstLevel → ℕ → ℕ → Bool
-touches_table (Failing f) at n = false
-touches_table (Section e) at n = false
-touches_table (Table table) at n = overlap at n table.base table_size
+abbrev pub touches_table : FirstOutcome → ℕ → ℕ → Bool
+touches_table (Err f) at n = false
+touches_table (Ok (Section e)) at n = false
+touches_table (Ok (Table table)) at n = overlap at n table.base table_size
 
 -- whether they touch the table of one of the first k MiB
 unfoldable pub touches_tables : List ℕ → Tables → ℕ → ℕ → ℕ → Bool

@@ -12,7 +12,6 @@ use Rattle.model.specs.declared.Tables.{Tables}
 use Rattle.model.specs.declared.Operation.{Operation}
 use Rattle.model.specs.declared.Kind.{Kind}
 use Rattle.model.specs.declared.Kind.TheVariants.{Read, Write, Root, Asid, Mode, All, Addr, Ctx, AddrCtx, Fetch, Domain}
-use Rattle.model.specs.declared.Outcome.{Outcome}
 use Rattle.model.specs.declared.Access.{Access}
 use Rattle.model.specs.declared.Access.TheVariants.{Stale, Fails, Physical}
 use Rattle.model.specs.declared.Purpose.TheVariants.{ToWrite}
@@ -20,6 +19,7 @@ use Rattle.model.specs.declared.Size.{Size}
 use Rattle.model.specs.declared.Check.{Check}
 use Rattle.model.specs.declared.Check.TheVariants.{Pass, Refuse}
 use Rattle.runs.specs.Quiet.{quiet}
+use Rattle.model.specs.Types.{Outcome}
 
 -- What is noted after an operation: no page, one page, or every page, in the row of the current context and in the global row.
 pub data Extent : Type 0 where

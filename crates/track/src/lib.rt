@@ -113,8 +113,8 @@ pub fn is_stale(global: u32, w: u32, o: Outcome) -> bool
 {
     w != 0
         && match o {
-            Outcome::Mapped(e) => e.global != global || w != walk::entry_word(e),
-            Outcome::Failed(_) => true,
+            Ok(e) => e.global != global || w != walk::entry_word(e),
+            Err(_) => true,
         }
 }
 

@@ -8,17 +8,15 @@ ghost use Rattle.model.specs.step.Memory.{written_at};
 ghost use Rattle.model.specs.step.Track.{note_track};
 
 use access::access_at;
-use model::{
-    Access, Answer, Loaded, OLD_WINDOW, Purpose, Refusal, Registers, Returned, Size, Tables,
-};
+use model::{Access, Answer, OLD_WINDOW, Purpose, Refusal, Registers, Returned, Size, Tables};
 
 // The number that loading found.
-pub fn value_of(x: Loaded) -> u32
+pub fn value_of(x: Option<u32>) -> u32
     ensures { result ≡ value_of x }
 {
     match x {
-        Loaded::Value(v) => v,
-        Loaded::Outside => 0,
+        Some(v) => v,
+        None => 0,
     }
 }
 

@@ -1,5 +1,5 @@
 -- Each operation, start, and one step: answer, registers, memory and track.
-use Rattle.std.specs.Prelude.{ℕ, ◌+◌, ◌*◌, ◌/◌, ◌%◌, ◌≡◌, Bool, cond, List, eqb, length}
+use Rattle.std.specs.Prelude.{ℕ, ◌+◌, ◌*◌, ◌/◌, ◌%◌, ◌≡◌, Bool, cond, List, eqb, length, Option, Some, None, Ok, Err}
 use Rattle.model.specs.Limits.{page_size, old_window}
 use Rattle.model.specs.Numbers.{shown}
 use Rattle.model.specs.step.Memory.{bytes_of, within, load_at, written_at}
@@ -7,7 +7,7 @@ use Rattle.model.specs.step.Walk.{walk_page}
 use Rattle.model.specs.step.Rights.{field_at, ruling_of}
 use Rattle.model.specs.step.Track.{note_track, flush_all, flush_page, flush_context, flush_page_in, stale_page}
 use Rattle.model.specs.step.Checks.{checks, start_checks, first_failing}
-use Rattle.model.specs.Types.{Registers, Setting, Tables, Returned, Operation, Kind, Read, Write, Root, Asid, Mode, All, Addr, Ctx, AddrCtx, Fetch, Domain, Entry, Alignment, Fault, SectionDomain, PageDomain, SectionPermission, PagePermission, AccessOutside, Refusal, StalePage, Answer, Done, Faulted, Refused, Size, One, Two, Four, Purpose, ToRead, ToWrite, ToFetch, Ruling, Allowed, PermissionDenied, DomainDenied, Loaded, Value, Outside, Outcome, Mapped, Failed, Check, Pass, Refuse, Access, Stale, Fails, Physical}
+use Rattle.model.specs.Types.{Registers, Setting, Tables, Returned, Operation, Kind, Read, Write, Root, Asid, Mode, All, Addr, Ctx, AddrCtx, Fetch, Domain, Entry, Alignment, Fault, SectionDomain, PageDomain, SectionPermission, PagePermission, AccessOutside, Refusal, StalePage, Answer, Done, Faulted, Refused, Size, One, Two, Four, Purpose, ToRead, ToWrite, ToFetch, Ruling, Allowed, PermissionDenied, DomainDenied, Outcome, Check, Pass, Refuse, Access, Stale, Fails, Physical}
 
 -- What a start or an operation gives: what it returns, and what it leaves in memory and track.
 pub record After : Type 0 where
@@ -59,8 +59,8 @@ reached DomainDenied e size a m = Fails (domain_fault_of e)
 
 -- an access to a page with this outcome: domain and permission, then the bytes
 abbrev pub granted : Outcome → Registers → Purpose → Size → ℕ → List ℕ → Access
-granted (Failed f) r purpose size a m = Fails f
-granted (Mapped e) r purpose size a m =
+granted (Err f) r purpose size a m = Fails f
+granted (Ok e) r purpose size a m =
     reached (ruling_of e.ap r.mode purpose (field_at r.domains e.domain) e.xn) e size a m
 
 -- an access to a page with this outcome, which is stale or not
@@ -74,9 +74,9 @@ access_at r m t purpose size a =
     decided x (stale_page old_window t r.context (a / page_size) x) r purpose size a m
 
 -- the number that loading found: an access has tested that it lies in memory
-abbrev pub value_of : Loaded → ℕ
-value_of (Value v) = v
-value_of Outside = 0
+abbrev pub value_of : Option ℕ → ℕ
+value_of (Some v) = v
+value_of None = 0
 
 -- a read, or a fetch, and a write, by what the access comes to
 abbrev pub read_from : Access → Size → Registers → List ℕ → List ℕ → After

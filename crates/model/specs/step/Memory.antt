@@ -1,6 +1,6 @@
 -- Numbers of one, two or four bytes in memory, low byte first.
-use Rattle.std.specs.Prelude.{ℕ, ◌+◌, ◌*◌, ◌/◌, ◌%◌, Bool, cond, List, leb, length, get_or, set}
-use Rattle.model.specs.Types.{Size, One, Two, Four, Loaded, Value, Outside}
+use Rattle.std.specs.Prelude.{ℕ, ◌+◌, ◌*◌, ◌/◌, ◌%◌, Bool, cond, List, leb, length, get_or, set, Option, Some, None}
+use Rattle.model.specs.Types.{Size, One, Two, Four}
 
 -- how many bytes a size is
 abbrev pub bytes_of : Size → ℕ
@@ -23,8 +23,8 @@ number_at Two m at = half_at m at
 number_at Four m at = half_at m at + 65536 * half_at m (at + 2)
 
 -- what loading finds
-unfoldable pub load_at : Size → List ℕ → ℕ → Loaded
-load_at size m at = cond (within size m at) (Value (number_at size m at)) Outside
+unfoldable pub load_at : Size → List ℕ → ℕ → Option ℕ
+load_at size m at = cond (within size m at) (Some (number_at size m at)) None
 
 -- memory with the low two bytes of v stored from `at`
 abbrev pub half_stored : List ℕ → ℕ → ℕ → List ℕ

@@ -1,9 +1,9 @@
 -- The track: noting, flushing and the stale test, by words, rows and parts.
-use Rattle.std.specs.Prelude.{ℕ, ◌+◌, ◌*◌, ◌-◌, ◌/◌, ◌%◌, Bool, true, false, cond, List, eqb, ltb, length, get_or, set}
+use Rattle.std.specs.Prelude.{ℕ, ◌+◌, ◌*◌, ◌-◌, ◌/◌, ◌%◌, Bool, true, false, cond, List, eqb, ltb, length, get_or, set, Ok, Err}
 use Rattle.model.specs.Limits.{row_size, word_limit}
 use Rattle.model.specs.step.Walk.{walk_page}
 use Rattle.model.specs.step.Rows.{map_words, in_row, each_row}
-use Rattle.model.specs.Types.{Entry, Tables, Outcome, Mapped, Failed}
+use Rattle.model.specs.Types.{Entry, Tables, Outcome}
 
 -- the word of one entry
 abbrev pub entry_word : Entry → ℕ
@@ -22,8 +22,8 @@ add_entry g w v = cond (eqb w 0) v (cond (eqb w v) w (cond (is_entry g w) 1 w))
 
 -- a word after noting what the walk of its page found
 abbrev pub add_outcome : ℕ → ℕ → Outcome → ℕ
-add_outcome g w (Mapped e) = cond (eqb e.global g) (add_entry g w (entry_word e)) w
-add_outcome g w (Failed f) = w
+add_outcome g w (Ok e) = cond (eqb e.global g) (add_entry g w (entry_word e)) w
+add_outcome g w (Err f) = w
 
 unfoldable pub note_page : List ℕ → Tables → ℕ → ℕ → ℕ → ℕ
 note_page m tables g page w = add_outcome g w (walk_page m tables page)
@@ -68,8 +68,8 @@ word_at w t row page = get_or t (row * row_size w + page) 0
 
 -- whether a word of a row of kind g makes its page stale
 unfoldable pub stale_word : ℕ → ℕ → Outcome → Bool
-stale_word g w (Mapped e) = cond (eqb w 0) false (cond (eqb e.global g) (cond (eqb w (entry_word e)) false true) true)
-stale_word g w (Failed f) = cond (eqb w 0) false true
+stale_word g w (Ok e) = cond (eqb w 0) false (cond (eqb e.global g) (cond (eqb w (entry_word e)) false true) true)
+stale_word g w (Err f) = cond (eqb w 0) false true
 
 -- whether a page is stale: by its word in the row of a context, or by its word in the global row
 unfoldable pub stale_page : ℕ → List ℕ → ℕ → ℕ → Outcome → Bool

@@ -1,7 +1,7 @@
 -- The walk of two-level tables, by page number.
-use Rattle.std.specs.Prelude.{ℕ, ◌+◌, ◌*◌, ◌-◌, ◌/◌, ◌%◌, cond, List, eqb}
+use Rattle.std.specs.Prelude.{ℕ, ◌+◌, ◌*◌, ◌-◌, ◌/◌, ◌%◌, cond, List, eqb, Option, Some, None, Ok, Err}
 use Rattle.model.specs.step.Memory.{load_at}
-use Rattle.model.specs.Types.{Entry, FirstUnmapped, SecondUnmapped, FirstOutside, SecondOutside, Four, Loaded, Value, Outside, Pointer, FirstLevel, Failing, Table, Section, Tables, Outcome, Mapped, Failed}
+use Rattle.model.specs.Types.{Entry, FirstUnmapped, SecondUnmapped, FirstOutside, SecondOutside, Four, Pointer, FirstOutcome, Table, Section, Tables, Outcome}
 
 -- the AP of a section's word, and of a page's
 abbrev pub section_ap : ℕ → ℕ
@@ -42,7 +42,7 @@ abbrev pub small_entry : ℕ → ℕ → Entry
 small_entry w d = record { frame = w / 4096 % 1048576; ap = page_ap w; section = 0; global = page_global w; xn = small_xn w; domain = d }
 
 -- a descriptor is a word of memory
-abbrev pub descriptor_at : List ℕ → ℕ → Loaded
+abbrev pub descriptor_at : List ℕ → ℕ → Option ℕ
 descriptor_at m at = load_at Four m at
 
 -- the low two bits of a word, and the bit that would make a section a supersection
@@ -57,38 +57,38 @@ abbrev pub pointer_of : ℕ → Pointer
 pointer_of w = record { base = w / 1024 % 4194304 * 1024; domain = first_domain w }
 
 -- what a level-one word says of a page
-unfoldable pub first_of : ℕ → ℕ → FirstLevel
+unfoldable pub first_of : ℕ → ℕ → FirstOutcome
 first_of w page =
-    cond (eqb (kind_of w) 1) (Table (pointer_of w))
+    cond (eqb (kind_of w) 1) (Ok (Table (pointer_of w)))
     (cond (eqb (kind_of w) 2)
-    (cond (eqb (super_bit w) 0) (Section (section_entry w page)) (Failing FirstUnmapped))
-    (Failing FirstUnmapped))
+    (cond (eqb (super_bit w) 0) (Ok (Section (section_entry w page))) (Err FirstUnmapped))
+    (Err FirstUnmapped))
 
-abbrev pub first_from : Loaded → ℕ → FirstLevel
-first_from (Value w) page = first_of w page
-first_from Outside page = Failing FirstOutside
+abbrev pub first_from : Option ℕ → ℕ → FirstOutcome
+first_from (Some w) page = first_of w page
+first_from None page = Err FirstOutside
 
-unfoldable pub first_at : List ℕ → Tables → ℕ → FirstLevel
+unfoldable pub first_at : List ℕ → Tables → ℕ → FirstOutcome
 first_at m tables page = first_from (descriptor_at m (tables.root + 4 * (page / 256))) page
 
 -- what a level-two word says of a page, in a table of domain d
 unfoldable pub second_of : ℕ → ℕ → ℕ → Outcome
 second_of w page d =
-    cond (eqb (kind_of w) 0) (Failed SecondUnmapped)
-    (cond (eqb (kind_of w) 1) (Mapped (large_entry w page d)) (Mapped (small_entry w d)))
+    cond (eqb (kind_of w) 0) (Err SecondUnmapped)
+    (cond (eqb (kind_of w) 1) (Ok (large_entry w page d)) (Ok (small_entry w d)))
 
-abbrev pub second_from : Loaded → ℕ → ℕ → Outcome
-second_from (Value w) page d = second_of w page d
-second_from Outside page d = Failed SecondOutside
+abbrev pub second_from : Option ℕ → ℕ → ℕ → Outcome
+second_from (Some w) page d = second_of w page d
+second_from None page d = Err SecondOutside
 
 unfoldable pub second_at : List ℕ → Pointer → ℕ → Outcome
 second_at m table page = second_from (descriptor_at m (table.base + 4 * (page % 256))) page table.domain
 
 -- the whole walk
-abbrev pub walk_from : FirstLevel → List ℕ → ℕ → Outcome
-walk_from (Failing f) m page = Failed f
-walk_from (Section e) m page = Mapped e
-walk_from (Table table) m page = second_at m table page
+abbrev pub walk_from : FirstOutcome → List ℕ → ℕ → Outcome
+walk_from (Err f) m page = Err f
+walk_from (Ok (Section e)) m page = Ok e
+walk_from (Ok (Table table)) m page = second_at m table page
 
 unfoldable pub walk_page : List ℕ → Tables → ℕ → Outcome
 walk_page m tables page = walk_from (first_at m tables page) m page

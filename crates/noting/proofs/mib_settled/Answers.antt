@@ -1,6 +1,6 @@
 use Rattle.std.proofs.Common.{get_or, sym, ap, subst, ◌∙◌, arith, rules, refl}
-use Rattle.model.specs.declared.Loaded.{Loaded}
-use Rattle.model.specs.declared.Outcome.{Outcome}
+use Rattle.std.specs.Prelude.{ℕ, Option}
+use Rattle.model.specs.Types.{Outcome}
 use Rattle.model.specs.step.Walk.{first_from, walk_from}
 use Rattle.noting.specs.Mib.{note_mib, Stays}
 use Rattle.noting.proofs.Mib.{by_none}
@@ -9,8 +9,8 @@ use Rattle.noting.proofs.mib_settled.Goals as goal
 
 pub loop-i-preserved : goal.loop-i-preserved
 loop-i-preserved c = let a = c.args in let i = c.loop-i.i in
-    let is = sym c.in-Value.is ∙ c.load.ensures in
-    let o = c.found.ensures ∙ ap (λ (v : Loaded). walk_from (first_from v i) a.m.now i) is in
+    let is = sym c.in-Some.is ∙ c.load.ensures in
+    let o = c.found.ensures ∙ ap (λ (v : Option ℕ). walk_from (first_from v i) a.m.now i) is in
     through_turn (note_mib a.m.now a.at) i a.own.now a.shared.now _ (λ g w. refl) c.loop-i.invariant (omega arith) (omega (arith, c.requires))
     (subst (λ (x : Outcome). Stays (get_or a.own.now i 0) (get_or a.shared.now i 0) x) o (c.stays.ensures (search rules)))
 

@@ -1,8 +1,5 @@
-use mathlib.Core.Path.{ap, sym, ◌∙◌}
-use Rattle.model.specs.declared.FirstLevel.{FirstLevel}
-use Rattle.runs.specs.Quiet.{touches_table}
 use Rattle.quiet.proofs.touches_table.Goals as goal
 
-pub returns-in-Table : goal.returns-in-Table
-returns-in-Table c = let a = c.args in
-    c.overlaps.ensures ∙ ap (λ (x : FirstLevel). touches_table x a.at a.n) (sym c.in-Table.is)
+pub returns-in-Ok-Table : goal.returns-in-Ok-Table
+returns-in-Ok-Table c = let a = c.in-Ok-Table in
+    rw (a.is, rw a.is at a.field-0-is) c.overlaps.ensures
