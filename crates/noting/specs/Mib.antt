@@ -1,34 +1,24 @@
 -- Noting the pages of a MiB, which share one level-one descriptor.
-use Rattle.std.specs.Prelude.{ℕ, ◌≡◌, cond, List, eqb, Ok}
+use Rattle.std.specs.Prelude.{ℕ, ◌+◌, ◌*◌, ◌≡◌, min, List}
 use Rattle.model.specs.step.Rows.{map_words}
-use Rattle.model.specs.step.Walk.{section_entry, descriptor_at, first_from, second_at, walk_from}
+use Rattle.model.specs.step.Walk.{descriptor_at, first_from, walk_from}
 use Rattle.model.specs.step.Track.{add_outcome}
-use Rattle.model.specs.declared.Pointer.{Pointer}
 use Rattle.model.specs.Types.{Outcome}
 
 -- how many pages a MiB has
 abbrev pub mib_pages : ℕ
 mib_pages = 256
 
--- Words of a row of kind g.
+-- the words of this MiB among the n words of a row are what stands from `start` to `end`
+pub record IsMibRange (mib n start end : ℕ) : Type 0 where
+  pub from : start ≡ min (mib * mib_pages) n
+  pub to : end ≡ min (start + mib_pages) n
 
--- a word after noting page i of the section that word x makes
-abbrev pub note_section : ℕ → ℕ → ℕ → ℕ → ℕ
-note_section x g i w = add_outcome g w (Ok (section_entry x i))
-
--- a word after noting page i of a table
-abbrev pub note_table : List ℕ → Pointer → ℕ → ℕ → ℕ → ℕ
-note_table m table g i w = add_outcome g w (second_at m table i)
-
--- a word after noting page i of the MiB whose level-one descriptor stands at `at`
+-- a word of a row of kind g after noting page i of the MiB whose level-one descriptor stands at `at`
 abbrev pub note_mib : List ℕ → ℕ → ℕ → ℕ → ℕ → ℕ
 note_mib m at g i w = add_outcome g w (walk_from (first_from (descriptor_at m at) i) m i)
 
 -- The words of a page in a context's row and in the global row.
-
--- the one in the row that an entry of kind g belongs to
-abbrev pub word_for : ℕ → ℕ → ℕ → ℕ
-word_for g own shared = cond (eqb g 1) shared own
 
 -- noting what the walk of its page found leaves both as they are
 pub record Stays (own shared : ℕ) (o : Outcome) : Type 0 where

@@ -3,19 +3,20 @@
 // context's row, 1 for the global row.
 #![tactic(auto)]
 
-ghost use Rattle.std.specs.Prelude.{◌≡◌, true, ◌+◌, ◌*◌, ◌<◌, ◌≤◌, length};
-ghost use Rattle.model.specs.declared.Size.TheVariants.{Four};
+ghost use Rattle.std.specs.Prelude.{◌≡◌, true, length};
 ghost use Rattle.model.specs.Limits.{row_size};
-ghost use Rattle.model.specs.step.Memory.{number_at};
 ghost use Rattle.model.specs.step.Rows.{map_words, in_row};
+ghost use Rattle.model.specs.step.Walk.{first_of, walk_from};
 ghost use Rattle.model.specs.step.Track.{add_outcome, note_page, note_row, note_track};
-ghost use Rattle.noting.specs.Mib.{mib_pages, note_section, note_table, note_mib, word_for, Stays, Both};
+ghost use Rattle.noting.specs.Mib.{note_mib, IsMibRange, Stays, Both};
 
-use descriptor::{first_of, second_of, section_entry};
-use limits::{last_row, row_size, row_start, rows};
-use memory::{load, number};
-use model::{FirstLevel, Outcome, Pointer, Size, Tables};
+use descriptor::first_of;
+use limits::{last_row, row_range};
+use memory::load;
+use model::{FirstLevel, Outcome, Size, Tables};
+use std::ops::Range;
 use track::add_entry;
+use walk::level_two;
 
 // How many pages a MiB has: mib_pages.
 const MIB: usize = 256;
@@ -25,191 +26,89 @@ pub fn add_outcome(global: u32, w: u32, o: Outcome) -> u32
     ensures { result ≡ add_outcome global w o }
 {
     match o {
-        Ok(e) => {
-            if e.global == global {
-                return add_entry(global, w, walk::entry_word(e));
-            }
-            w
-        }
-        Err(_) => w,
+        Ok(e) if e.global == global => add_entry(global, w, walk::entry_word(e)),
+        _ => w,
     }
 }
 
-// Notes the pages of a MiB by its section, whose word is x: word i is that of page i.
-fn note_section(x: u32, global: u32, mib: &mut [u32])
-    ensures { mib.new ≡ map_words (note_section x global) mib.old }
+// What the walk of a page finds, by the word x of its level-one descriptor.
+fn found(m: &[u8], x: u32, page: usize) -> Outcome
+    ensures { result ≡ walk_from (first_of x page) m.now page }
 {
-    let mut i = 0;
-    while i < mib.len() {
-        let w = mib[i];
-        mib[i] = add_outcome(global, w, Ok(section_entry(x, i)));
-        i += 1;
-    }
-}
-
-// The word at `at`, which lies in memory.
-fn word(m: &[u8], at: usize) -> u32
-    requires { at + 4 ≤ length m.now }
-    ensures { result ≡ number_at Four m.now at }
-{
-    number(m[at], m[at + 1], m[at + 2], m[at + 3])
-}
-
-// How many of the n words from `base` on lie in memory.
-fn words_inside(m: &[u8], base: usize, n: usize) -> usize
-    ensures { (result ≤ n) × ((0 < result → base + 4 * result ≤ length m.now) × (result < n → length m.now < base + 4 * result + 4)) }
-{
-    if m.len() < base {
-        return 0;
-    }
-    let words = (m.len() - base) / 4;
-    if words < n {
-        return words;
-    }
-    n
-}
-
-// Notes the pages of a MiB by a table: word i is that of page i. A page whose descriptor lies outside memory stays as it is.
-fn note_table(m: &[u8], table: Pointer, global: u32, mib: &mut [u32])
-    requires { length mib.old ≤ mib_pages }
-    ensures { mib.new ≡ map_words (note_table m.now table global) mib.old }
-{
-    let base = table.base as usize;
-    let n = words_inside(m, base, mib.len());
-    let mut i = 0;
-    while i < n {
-        let w = mib[i];
-        mib[i] = add_outcome(global, w, second_of(word(m, base + 4 * i), i, table.domain));
-        i += 1;
+    match first_of(x, page)? {
+        FirstLevel::Section(e) => Ok(e),
+        FirstLevel::Table(table) => level_two(m, table, page),
     }
 }
 
 // Notes the pages of the MiB whose level-one descriptor stands at `at`: word i is that of page i.
 fn note_mib(m: &[u8], at: usize, global: u32, mib: &mut [u32])
-    requires { length mib.old ≤ mib_pages }
     ensures { mib.new ≡ map_words (note_mib m.now at global) mib.old }
 {
     if let Some(x) = load(m, at, Size::Four) {
-        match first_of(x, 0) {
-            Err(_) => {}
-            Ok(FirstLevel::Section(_)) => note_section(x, global, mib),
-            Ok(FirstLevel::Table(table)) => note_table(m, table, global, mib),
+        for i in 0..mib.len() {
+            mib[i] = add_outcome(global, mib[i], found(m, x, i));
         }
     }
 }
 
-// Where the MiB that starts at `page` ends, in a row of n words.
-fn mib_end(page: usize, n: usize) -> usize
-    requires { page < n }
-    ensures { (page < result) × ((result ≤ n) × ((result ≤ page + mib_pages) × (result < n → result ≡ page + mib_pages))) }
+// Where the words of a MiB stand among the n words of a row.
+fn mib_range(mib: usize, n: usize) -> Range<usize>
+    ensures { IsMibRange mib n result.start result.end }
 {
-    if n - page < MIB {
-        return n;
-    }
-    page + MIB
+    let start = mib.saturating_mul(MIB).min(n);
+    start..start + MIB.min(n - start)
 }
 
 // Notes a row of this kind: each of its words is one page's. The pages of a MiB share a level-one descriptor, which is read once.
 pub fn note_row(m: &[u8], tables: Tables, global: u32, row: &mut [u32])
     ensures { row.new ≡ note_row m.now tables global row.old }
 {
-    let mut page = 0;
-    while page < row.len() {
-        let end = mib_end(page, row.len());
-        let at = tables.root as usize + 4 * (page / MIB);
-        note_mib(m, at, global, &mut row[page..end]);
-        page = end;
+    for mib in 0..row.len().div_ceil(MIB) {
+        let at = tables.root as usize + 4 * mib;
+        let words = mib_range(mib, row.len());
+        note_mib(m, at, global, &mut row[words]);
     }
 }
 
 // Notes one row of a track, where the track has it.
+#[tactic(auto, unfolding(model::specs::step::Rows::in_row))]
 fn note_in(window: u32, m: &[u8], tables: Tables, global: u32, track: &mut [u32], row: usize)
     ensures { track.new ≡ in_row (row_size window) row (note_row m.now tables global) track.old }
 {
-    if row < rows(window, track.len()) {
-        let size = row_size(window);
-        let start = row_start(window, row, track.len());
-        let end = start + size;
-        note_row(m, tables, global, &mut track[start..end]);
+    if let Some(words) = row_range(window, row, track.len()) {
+        note_row(m, tables, global, &mut track[words]);
     }
 }
 
 // Most notings change nothing. To see that, both rows are read together, which is quicker than to write each.
 
-// The word of a page in the row that its entry belongs to.
-fn word_for(global: u32, own: u32, shared: u32) -> u32
-    ensures { result ≡ word_for global own shared }
-{
-    if global == 1 {
-        return shared;
-    }
-    own
-}
-
-// 0 where noting what the walk of its page found leaves its words in a context's row and in the global row as they are, else 1.
-fn changes(own: u32, shared: u32, o: Outcome) -> u32
-    ensures { (result ≤ 1) × (result ≡ 0 → Stays own shared o) }
+// Whether noting what the walk of its page found leaves its words in a context's row and in the global row as they are.
+fn stays(own: u32, shared: u32, o: Outcome) -> bool
+    ensures { result ≡ true → Stays own shared o }
 {
     match o {
         Ok(e) => {
-            let w = word_for(e.global, own, shared);
-            let v = add_entry(e.global, w, walk::entry_word(e));
-            if v == w {
-                return 0;
-            }
-            1
+            let w = if e.global == 1 { shared } else { own };
+            add_entry(e.global, w, walk::entry_word(e)) == w
         }
-        Err(_) => 0,
+        Err(_) => true,
     }
 }
 
-// How many pages of a MiB noting by its section, whose word is x, would change.
-fn changes_by_section(x: u32, own: &[u32], shared: &[u32]) -> u32
-    requires { (length own.now ≤ mib_pages) × (length shared.now ≡ length own.now) }
-    ensures { result ≡ 0 → Both (note_section x) own.now shared.now }
-{
-    let mut count = 0;
-    let mut i = 0;
-    while i < own.len() {
-        count += changes(own[i], shared[i], Ok(section_entry(x, i)));
-        i += 1;
-    }
-    count
-}
-
-// How many pages of a MiB noting by a table would change.
-fn changes_by_table(m: &[u8], table: Pointer, own: &[u32], shared: &[u32]) -> u32
-    requires { (length own.now ≤ mib_pages) × (length shared.now ≡ length own.now) }
-    ensures { result ≡ 0 → Both (note_table m.now table) own.now shared.now }
-{
-    let base = table.base as usize;
-    let n = words_inside(m, base, own.len());
-    let mut count = 0;
-    let mut i = 0;
-    while i < n {
-        count += changes(
-            own[i],
-            shared[i],
-            second_of(word(m, base + 4 * i), i, table.domain),
-        );
-        i += 1;
-    }
-    count
-}
-
-// How many pages noting would change of the MiB whose level-one descriptor stands at `at`.
-fn changes_of_mib(m: &[u8], at: usize, own: &[u32], shared: &[u32]) -> u32
-    requires { (length own.now ≤ mib_pages) × (length shared.now ≡ length own.now) }
-    ensures { result ≡ 0 → Both (note_mib m.now at) own.now shared.now }
+// Whether noting leaves the words of the MiB as they are whose level-one descriptor stands at `at`.
+fn mib_settled(m: &[u8], at: usize, own: &[u32], shared: &[u32]) -> bool
+    requires { length shared.now ≡ length own.now }
+    ensures { result ≡ true → Both (note_mib m.now at) own.now shared.now }
 {
     if let Some(x) = load(m, at, Size::Four) {
-        return match first_of(x, 0) {
-            Err(_) => 0,
-            Ok(FirstLevel::Section(_)) => changes_by_section(x, own, shared),
-            Ok(FirstLevel::Table(table)) => changes_by_table(m, table, own, shared),
-        };
+        for i in 0..own.len() {
+            if !stays(own[i], shared[i], found(m, x, i)) {
+                return false;
+            }
+        }
     }
-    0
+    true
 }
 
 // Whether noting leaves a context's row and the global row as they are.
@@ -217,30 +116,26 @@ fn rows_settled(m: &[u8], tables: Tables, own: &[u32], shared: &[u32]) -> bool
     requires { length shared.now ≡ length own.now }
     ensures { result ≡ true → Both (note_page m.now tables) own.now shared.now }
 {
-    let mut page = 0;
-    while page < own.len() {
-        let end = mib_end(page, own.len());
-        let first = tables.root as usize + 4 * (page / MIB);
-        if changes_of_mib(m, first, &own[page..end], &shared[page..end]) != 0 {
+    for mib in 0..own.len().div_ceil(MIB) {
+        let first = tables.root as usize + 4 * mib;
+        let words = mib_range(mib, own.len());
+        if !mib_settled(m, first, &own[words.start..words.end], &shared[words]) {
             return false;
         }
-        page = end;
     }
     true
 }
 
-// Whether noting leaves a track as it is; false also where the context has no row of its own.
+// Whether noting leaves a track as it is; false also where it lacks one of the two rows.
+#[tactic(auto, unfolding(model::specs::step::Rows::in_row))]
 fn is_settled(window: u32, m: &[u8], tables: Tables, track: &[u32], context: usize) -> bool
     ensures { result ≡ true → track.now ≡ note_track window m.now tables context track.now }
 {
     let last = last_row(window, track.len());
-    if context < last {
-        let size = row_size(window);
-        let own = row_start(window, context, track.len());
-        let own_end = own + size;
-        let shared = row_start(window, last, track.len());
-        let shared_end = shared + size;
-        return rows_settled(m, tables, &track[own..own_end], &track[shared..shared_end]);
+    if let Some(own) = row_range(window, context, track.len()) {
+        if let Some(shared) = row_range(window, last, track.len()) {
+            return rows_settled(m, tables, &track[own], &track[shared]);
+        }
     }
     false
 }
@@ -258,8 +153,7 @@ pub fn note_rows(window: u32, m: &[u8], tables: Tables, track: &mut [u32], conte
 pub fn note(window: u32, m: &[u8], tables: Tables, track: &mut [u32], context: usize)
     ensures { track.new ≡ note_track window m.now tables context track.old }
 {
-    if is_settled(window, m, tables, track, context) {
-        return;
+    if !is_settled(window, m, tables, track, context) {
+        note_rows(window, m, tables, track, context);
     }
-    note_rows(window, m, tables, track, context);
 }

@@ -7,7 +7,7 @@ ghost use Rattle.model.specs.step.Rows.{in_row};
 ghost use Rattle.model.specs.step.Track.{add_outcome};
 ghost use Rattle.runs.specs.Step.{note_found, note_one_page};
 
-use limits::{last_row, row_size, row_start, rows};
+use limits::{last_row, row_range};
 use model::{Outcome, Tables};
 use noting::add_outcome;
 
@@ -16,24 +16,22 @@ fn note_found(row: &mut [u32], global: u32, page: usize, o: Outcome)
     ensures { row.new ≡ note_found global page o row.old }
 {
     if page < row.len() {
-        let w = row[page];
-        row[page] = add_outcome(global, w, o);
+        row[page] = add_outcome(global, row[page], o);
     }
 }
 
 // Notes it in one row of a track, where the track has it.
+#[tactic(auto, unfolding(model::specs::step::Rows::in_row))]
 fn note_in(window: u32, track: &mut [u32], row: usize, global: u32, page: usize, o: Outcome)
     ensures { track.new ≡ in_row (row_size window) row (note_found global page o) track.old }
 {
-    if row < rows(window, track.len()) {
-        let size = row_size(window);
-        let start = row_start(window, row, track.len());
-        let end = start + size;
-        note_found(&mut track[start..end], global, page, o);
+    if let Some(words) = row_range(window, row, track.len()) {
+        note_found(&mut track[words], global, page, o);
     }
 }
 
 // Notes a page in the row of a context, where the track has it, then in the global row.
+#[tactic(auto, unfolding(runs::specs::Step::note_one_page))]
 pub fn note_page(
     window: u32,
     m: &[u8],

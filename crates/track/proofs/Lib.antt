@@ -1,4 +1,2 @@
--- Laws of words, of rows, and of the stale test.
-pub mod Words
+-- Laws of lists of words in rows.
 pub mod Rows
-pub mod Stale

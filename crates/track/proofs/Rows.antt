@@ -1,30 +1,19 @@
 -- Laws of lists of words in rows.
-use Prim.Native.Nat.{ℕ, zero, suc, ◌+◌, ◌*◌, ◌/◌, ◌≤◌, ◌<◌, zero-le}
+use Prim.Native.Nat.{ℕ, zero, suc, ◌+◌, ◌-◌, ◌*◌, ◌≤◌, ◌<◌}
 use mathlib.Core.Path.{◌≡◌, refl, sym, ap, ◌∙◌}
 use mathlib.Core.List.{List, [], ◌∷◌, ◌++◌}
-use native.Mathlib.Nat.{le_of_suc-le-suc, not-suc-le-zero, add-zero, add-suc, suc-add, zero-add, suc-mul, mul-zero, zero-lt-suc}
+use native.Mathlib.Nat.{le_of_suc-le-suc, not-suc-le-zero, add-zero, add-suc, suc-add, zero-add}
 use native.Mathlib.Numerals.{add-one}
 use native.Mathlib.Omega.{arith}
 use lib.ListN.{length, get_or, set, take, drop}
-use borrow.Author.Tests.{le-leb, lt-leb}
 use borrow.Rule.Slice.PartMut.{put_mid}
 use mathlib.Core.Bool.{Bool, true, false, cond}
 use lib.Dec.{leb}
-use Rattle.model.specs.step.Rows.{map_first, map_words, row_start, in_part, in_row, each_row}
-use Rattle.limits.proofs.Sizes.{row_past, start_place}
-
--- a word stored where it stands
-set_own : (l : List ℕ) (n : ℕ) → set l n (get_or l n 0) ≡ l
-set_own [] n = refl
-set_own (w ∷ ws) zero = refl
-set_own (w ∷ ws) (suc n) = ap (λ (l : List ℕ). w ∷ l) (set_own ws n)
+use Rattle.std.proofs.lemmas.List.{set-get_or, take-append-drop}
+use Rattle.model.specs.step.Rows.{map_first, in_part, in_row}
+use Rattle.limits.specs.Ranges.{IsRowRange}
 
 module _ (f : ℕ → ℕ → ℕ) where
-  pub length_map_first : (i n : ℕ) (l : List ℕ) → length (map_first f i n l) ≡ length l
-  length_map_first i zero l = refl
-  length_map_first i (suc n) [] = refl
-  length_map_first i (suc n) (w ∷ ws) = ap suc (length_map_first (suc i) n ws)
-
   -- the word after the first n is as it was
   pub next_map_first : (i n : ℕ) (l : List ℕ) → get_or (map_first f i n l) n 0 ≡ get_or l n 0
   next_map_first i zero l = refl
@@ -45,7 +34,7 @@ module _ (f : ℕ → ℕ → ℕ) where
 
   -- a turn of a loop that finds the next word as f leaves it
   pub still_turn : (l : List ℕ) (n : ℕ) → l ≡ map_first f 0 n l → n < length l → f n (get_or l n 0) ≡ get_or l n 0 → l ≡ map_first f 0 (n + 1) l
-  still_turn l n e h q = sym (set_own l n) ∙ turn l l n (get_or l n 0) e h (sym q)
+  still_turn l n e h q = sym (set-get_or l n 0) ∙ turn l l n (get_or l n 0) e h (sym q)
 
   whole_part : (i k : ℕ) (l : List ℕ) → map_first f i k l ≡ map_first f i (length (take k l)) (take k l) ++ drop k l
   whole_part i zero l = refl
@@ -61,10 +50,6 @@ module _ (f : ℕ → ℕ → ℕ) where
   -- a turn of a loop that changes one part after the other
   pub part_turn : (old row ys : List ℕ) (p k : ℕ) → row ≡ map_first f 0 p old → p ≤ length old → ys ≡ map_first f p (length (take k (drop p row))) (take k (drop p row)) → put_mid p k row ys ≡ map_first f 0 (p + k) old
   part_turn old row ys p k e h q = sym (next_part 0 p k old h ∙ rw (zero-add p, ← e, ← q))
-
-  -- after the last turn
-  pub all_turns : (old row : List ℕ) (n : ℕ) → row ≡ map_first f 0 n old → n ≡ length old → row ≡ map_words f old
-  all_turns old row n e h = e ∙ ap (λ (k : ℕ). map_first f 0 k old) h
 
   no_words : (i n : ℕ) → map_first f i n [] ≡ map_first f i 0 []
   no_words i zero = refl
@@ -85,12 +70,6 @@ module _ (f : ℕ → ℕ → ℕ) where
   from_start s i (suc n) (w ∷ ws) =
       ap (λ (l : List ℕ). f (s + i) w ∷ l) (ap (λ (k : ℕ). map_first f k n ws) (sym (add-suc s i)) ∙ from_start s (suc i) n ws)
 
--- a part is as long as it was asked for, or shorter
-pub part_length : (k : ℕ) (l : List ℕ) → length (take k l) ≤ k
-part_length zero l = zero-le
-part_length (suc k) [] = zero-le
-part_length (suc k) (w ∷ ws) = omega (arith, part_length k ws)
-
 -- two functions that agree on the words of a list
 pub same_words : (f g : ℕ → ℕ → ℕ) (i n : ℕ) (l : List ℕ) → ((p : ℕ) → p < i + n → (w : ℕ) → f p w ≡ g p w) → map_first f i n l ≡ map_first g i n l
 same_words f g i zero l h = refl
@@ -98,14 +77,9 @@ same_words f g i (suc n) [] h = refl
 same_words f g i (suc n) (w ∷ ws) h =
     ap (λ (x : ℕ). x ∷ map_first f (suc i) n ws) (h i (omega arith) w) ∙ ap (λ (l : List ℕ). g i w ∷ l) (same_words f g (suc i) n ws (λ (p : ℕ) a. h p (omega arith)))
 
--- a list from its two parts, and a part put back where it stood
-from_parts : (n : ℕ) (l : List ℕ) → take n l ++ drop n l ≡ l
-from_parts zero l = refl
-from_parts (suc n) [] = refl
-from_parts (suc n) (w ∷ ws) = ap (λ (l : List ℕ). w ∷ l) (from_parts n ws)
-
+-- a part put back where it stood
 part_own : (start k : ℕ) (l : List ℕ) → put_mid start k l (take k (drop start l)) ≡ l
-part_own start k l = ap (λ (ys : List ℕ). take start l ++ ys) (from_parts k (drop start l)) ∙ from_parts start l
+part_own start k l = ap (λ (ys : List ℕ). take start l ++ ys) (take-append-drop k (drop start l)) ∙ take-append-drop start l
 
 -- a turn of a loop that finds the next part as f leaves it
 pub still_part : (f : ℕ → ℕ → ℕ) (l : List ℕ) (p k : ℕ) → l ≡ map_first f 0 p l → p ≤ length l → take k (drop p l) ≡ map_first f p (length (take k (drop p l))) (take k (drop p l)) → l ≡ map_first f 0 (p + k) l
@@ -124,47 +98,9 @@ still_row f size c k l e q = go (leb (c * size + size) (length l))
     go true = sym (part_own (c * size) k l) ∙ put_part f (c * size) size k l (take k (drop (c * size) l)) e q
     go false = refl
 
--- a row that was lent and came back as ys
-pub put_row : (f : List ℕ → List ℕ) (size c k : ℕ) (l ys : List ℕ) → k ≡ size → c * size + size ≤ length l → ys ≡ f (take k (drop (c * size) l)) → put_mid (c * size) k l ys ≡ in_row size c f l
-unfolding in_row
-put_row f size c k l ys e h q = rw (le-leb (c * size + size) (length l) h) (put_part f (c * size) size k l ys e q)
-
--- no such row
-pub no_row : (f : List ℕ → List ℕ) (size c : ℕ) (l : List ℕ) → length l < c * size + size → l ≡ in_row size c f l
-unfolding in_row
-no_row f size c l h = rw (lt-leb (c * size + size) (length l) h)
-
--- a turn of a loop that changes one row after the other
-pub row_turn : (f : List ℕ → List ℕ) (size c : ℕ) (old l new : List ℕ) → l ≡ each_row size c f old → new ≡ in_row size c f l → new ≡ each_row size (c + 1) f old
-unfolding each_row
-row_turn f size c old l new w q = rw add-one (q ∙ ap (in_row size c f) w)
-
--- ── Rows of a size that is told, lent from where they start ──
-
--- a row that stands there was lent and came back as ys
-pub put_at : (f : List ℕ → List ℕ) (size row start words k : ℕ) (l ys : List ℕ) → start ≡ row * size → words ≡ size → start + words ≤ length l →
-    k ≡ words → ys ≡ f (take k (drop start l)) → put_mid start k l ys ≡ in_row size row f l
-put_at f size row start words k l ys place is room e q =
-    ap (λ (s : ℕ). put_mid s k l ys) place
-    ∙ put_row f size row k l ys (e ∙ is) (rw (← place, ← is) room) (q ∙ ap (λ (s : ℕ). f (take k (drop s l))) place)
-
--- a row that has room was lent from where it starts, and came back as ys
-pub put_from : (f : List ℕ → List ℕ) (size row start words k : ℕ) (l ys : List ℕ) → start ≡ row_start size row (length l) → words ≡ size → start + words ≤ length l →
-    k ≡ words → ys ≡ f (take k (drop start l)) → put_mid start k l ys ≡ in_row size row f l
-put_from f size row start words k l ys at is room e q =
-    put_at f size row start words k l ys (at ∙ start_place size row (length l) (rw (← at, ← is) room)) is room e q
-
--- a row past the whole rows is not there; where rows have no words, f has none to change
-pub none_past : (f : List ℕ → List ℕ) (size row count : ℕ) (l : List ℕ) → f [] ≡ [] → count ≡ length l / size → count ≤ row → l ≡ in_row size row f l
-none_past f zero row count l nothing many h = sym (unfold in_row in rw (mul-zero row, le-leb 0 (length l) zero-le) (ap (λ (ys : List ℕ). ys ++ l) nothing))
-none_past f (suc s) row count l nothing many h =
-    let past : length l < suc row * suc s = row_past (length l) (suc s) (suc row) (zero-lt-suc s) (omega arith) in
-    let step : suc row * suc s ≡ row * suc s + suc s = suc-mul row (suc s) in
-    no_row f (suc s) row l (omega arith)
-
--- a row that f leaves as it is, seen from where it starts
-pub still_from : (f : List ℕ → List ℕ) (size row start words k : ℕ) (l : List ℕ) → start ≡ row_start size row (length l) → words ≡ size → start + words ≤ length l →
-    k ≡ words → take k (drop start l) ≡ f (take k (drop start l)) → l ≡ in_row size row f l
-still_from f size row start words k l at is room e q =
-    let place = at ∙ start_place size row (length l) (rw (← at, ← is) room) in
-    still_row f size row k l (e ∙ is) (sym (ap (λ (s : ℕ). take k (drop s l)) place) ∙ q ∙ ap (λ (s : ℕ). f (take k (drop s l))) place)
+-- the same, seen from where it stands
+pub still_range : (f : List ℕ → List ℕ) (size c start end : ℕ) (l : List ℕ) → IsRowRange size c (length l) start end →
+    take (end - start) (drop start l) ≡ f (take (end - start) (drop start l)) → l ≡ in_row size c f l
+still_range f size c start end l r q =
+    let words : end - start ≡ size = omega (arith, r.to) in
+    still_row f size c (end - start) l words (sym (ap (λ (s : ℕ). take (end - start) (drop s l)) r.from) ∙ q ∙ ap (λ (s : ℕ). f (take (end - start) (drop s l))) r.from)

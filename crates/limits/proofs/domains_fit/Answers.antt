@@ -1,23 +1,20 @@
-use Prim.Native.Nat.{zero-le}
-use native.Mathlib.Omega.{arith}
-use mathlib.Core.Path.{refl, sym, ap, ◌∙◌}
+use Rattle.std.proofs.Common.{◌≡◌, ℕ, suc, ◌+◌, ◌-◌, ◌<◌, ◌/◌, ◌%◌, false, cond, refl, sym, ap, ◌∙◌, arith}
+use lib.Dec.{eqb}
 use borrow.Author.Tests.{eq-eqb, ne_eqb}
-use Rattle.model.specs.step.Checks.{domains_fit}
-use Rattle.limits.proofs.Laws.{one_field, no_field, all_1}
+use Rattle.model.specs.step.Checks.{fields_fit, domains_fit}
 use Rattle.limits.proofs.domains_fit.Goals as goal
 
-pub loop-i-init : goal.loop-i-init
+-- the fields from field i on: the lowest, then the rest
+one_field : (i w : ℕ) → i < 16 → fields_fit (16 - i) w ≡ cond (eqb (w % 4) 2) false (fields_fit (16 - (i + 1)) (w / 4))
+unfolding fields_fit
+one_field i w h = ap (λ n. fields_fit n w) (let q : 16 - i ≡ suc (16 - (i + 1)) = omega (arith, h) in q)
+
+pub loop-init : goal.loop-init
 unfolding domains_fit
-loop-i-init c = (zero-le, refl)
+loop-init c = refl
 
-pub returns-then-domains-eq1431655765 : goal.returns-then-domains-eq1431655765
-returns-then-domains-eq1431655765 c = sym (ap domains_fit c.if-domains-eq1431655765.true ∙ all_1)
+pub returns-then-rest-eq2 : goal.returns-then-rest-eq2
+returns-then-rest-eq2 c = sym (one_field c.loop.counter c.loop.rest c.loop-test.true ∙ rw (eq-eqb _ 2 c.if-rest-eq2.true)) ∙ c.loop.invariant
 
-pub returns-then-field-eq2 : goal.returns-then-field-eq2
-returns-then-field-eq2 c = sym (one_field c.loop-i.i c.loop-i.rest (omega arith) ∙ rw (eq-eqb _ 2 c.if-field-eq2.true)) ∙ c.loop-i.invariant.1
-
-pub loop-i-preserved : goal.loop-i-preserved
-loop-i-preserved c = (omega arith, sym (one_field c.loop-i.i c.loop-i.rest (omega arith) ∙ rw (ne_eqb _ 2 c.if-field-eq2.false)) ∙ c.loop-i.invariant.1)
-
-pub returns : goal.returns
-returns c = sym (no_field c.loop-i.i c.loop-i.rest (omega arith)) ∙ c.loop-i.invariant.1
+pub loop-preserved : goal.loop-preserved
+loop-preserved c = sym (one_field c.loop.counter c.loop.rest c.loop-test.true ∙ rw (ne_eqb _ 2 c.if-rest-eq2.false)) ∙ c.loop.invariant

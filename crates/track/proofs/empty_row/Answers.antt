@@ -1,16 +1,10 @@
-use Prim.Native.Nat.{ℕ, zero-le}
-use lib.ListN.{length-set}
-use Rattle.track.proofs.Rows.{turn}
-use native.Mathlib.Omega.{arith}
-use mathlib.Core.Path.{refl}
-use Rattle.track.proofs.Rows.{all_turns}
+use Rattle.std.proofs.Common.{◌≡◌, ℕ, suc, List, [], ◌∷◌, length, replicate, refl, ap, ◌∙◌, rules}
+use Rattle.model.specs.step.Rows.{map_first}
 use Rattle.track.proofs.empty_row.Goals as goal
 
-pub loop-p-init : goal.loop-p-init
-loop-p-init c = (zero-le, (refl, refl))
-
-pub loop-p-preserved : goal.loop-p-preserved
-loop-p-preserved c = (omega arith, (turn (λ (i w : ℕ). 0) _ _ _ _ c.loop-p.invariant.1.0 (omega arith) refl, simp length-set c.loop-p.invariant.1.1))
+zeros : (i : ℕ) (l : List ℕ) → replicate (length l) 0 ≡ map_first (λ (i w : ℕ). 0) i (length l) l
+zeros i [] = refl
+zeros i (w ∷ ws) = ap (λ (l : List ℕ). 0 ∷ l) (zeros (suc i) ws)
 
 pub returns : goal.returns
-returns c = all_turns (λ (i w : ℕ). 0) c.args.row.now c.loop-p.row c.loop-p.p c.loop-p.invariant.1.0 (omega arith)
+returns c = c.fill.ensures.after (λ y h. search rules) ∙ zeros 0 c.args.row.now

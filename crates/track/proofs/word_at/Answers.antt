@@ -1,17 +1,26 @@
-use Prim.Native.Nat.{ℕ, ◌+◌, ◌*◌, ◌-◌, ◌≤◌, ◌<◌}
-use mathlib.Core.Path.{sym, ap, ◌∙◌, subst}
-use lib.ListN.{length, get_or, get_or-eq_default}
+use Rattle.std.proofs.Common.{◌≡◌, ℕ, ◌+◌, ◌*◌, ◌-◌, List, length, take, drop, get_or, Option, Some, None, Bor, unwrap_or, ap, ◌∙◌, arith}
+use Rattle.std.proofs.lemmas.Grind.{common_steps}
+use Rattle.std.proofs.lemmas.List.{get_or-drop, get_or_past}
+use Rattle.std.specs.Option.{option_copied}
+use Rattle.std.specs.Slice.{IsItemAt}
 use Rattle.model.specs.Limits.{row_size}
-use Rattle.limits.proofs.Sizes.{start_word, start_no_word}
+use Rattle.model.specs.step.Rows.{row_start}
 use Rattle.track.proofs.word_at.Goals as goal
 
-pub returns-then-page-track : goal.returns-then-page-track
-returns-then-page-track c = let a = c.args in
-    ap (λ (n : ℕ). get_or a.track.now n 0)
-    (ap (λ (n : ℕ). n + a.page) c.row_start-start.ensures.0
-    ∙ start_word (row_size a.window) a.row (length a.track.now) a.page (subst (λ (n : ℕ). a.page < length a.track.now - n) c.row_start-start.ensures.0 c.if-page-track.true))
+-- what stands at `page` from where the row starts
+at_row : (size row page : ℕ) (t : List ℕ) → get_or (drop (row_start size row (length t)) t) page 0 ≡ get_or t (row * size + page) 0
+unfolding row_start
+at_row size row page t = grind (arith, common_steps, get_or-drop, get_or_past)
+
+-- what `get` finds of the words from `start` on, or 0
+found : (start page : ℕ) (t : List ℕ) (r : Option (Bor ℕ)) → IsItemAt (take (length t - start) (drop start t)) page r → unwrap_or (option_copied r) 0 ≡ get_or (drop start t) page 0
+found start page t (Some x) h = grind (arith, common_steps)
+found start page t None h = grind (arith, common_steps)
 
 pub returns : goal.returns
 returns c = let a = c.args in
-    sym (get_or-eq_default a.track.now 0 {n = a.row * row_size a.window + a.page}
-    (start_no_word (row_size a.window) a.row (length a.track.now) a.page (subst (λ (n : ℕ). length a.track.now - n ≤ a.page) c.row_start-start.ensures.0 c.if-page-track.false)))
+    c.unwrap_or.ensures
+    ∙ ap (λ (r : Option ℕ). unwrap_or r 0) c.copied.ensures
+    ∙ found c.row_start-start.result a.page a.track.now c.get.result c.get.ensures.lookup
+    ∙ ap (λ (n : ℕ). get_or (drop n a.track.now) a.page 0) c.row_start-start.ensures.0
+    ∙ at_row (row_size a.window) a.row a.page a.track.now

@@ -1,0 +1,2 @@
+-- Where rows stand.
+pub mod Ranges
