@@ -13,7 +13,7 @@ use Rattle.model.specs.declared.Purpose.{Purpose}
 use Rattle.model.specs.declared.Purpose.TheVariants.{ToRead, ToWrite, ToFetch}
 use Rattle.model.specs.declared.Ruling.{Ruling}
 use Rattle.model.specs.declared.Ruling.TheVariants.{Allowed, PermissionDenied, DomainDenied}
-use Rattle.model.proofs.BoolLaws.{and_both}
+use Rattle.std.proofs.lemmas.Bool.{and_parts}
 use Rattle.model.proofs.Rulings.{ruling_same}
 use Rattle.permissions.specs.Sheet.{answer, each, answers, answer_at}
 use Rattle.permissions.specs.Places.{kind_place, kind_at, place_of, by_rules, agree}
@@ -23,9 +23,9 @@ agree_from : (xs : List ℕ) (i : ℕ) → agree i xs ≡ true → (k d : ℕ) �
 unfolding agree
 agree_from [] i h k d lt = absurd (let z : ⊥ = omega arith in z)
 agree_from (x ∷ xs) i h zero d lt =
-    eqb-true x (by_rules i) (and_both (eqb x (by_rules i)) (agree (suc i) xs) h).0 ∙ ap by_rules (let e : i ≡ i + 0 = omega arith in e)
+    eqb-true x (by_rules i) (and_parts (eqb x (by_rules i)) (agree (suc i) xs) h).0 ∙ ap by_rules (let e : i ≡ i + 0 = omega arith in e)
 agree_from (x ∷ xs) i h (suc k) d lt =
-    agree_from xs (suc i) (and_both (eqb x (by_rules i)) (agree (suc i) xs) h).1 k d (omega arith)
+    agree_from xs (suc i) (and_parts (eqb x (by_rules i)) (agree (suc i) xs) h).1 k d (omega arith)
     ∙ ap by_rules (let e : suc i + k ≡ i + suc k = omega arith in e)
 
 agree_at : (xs : List ℕ) → agree 0 xs ≡ true → (k d : ℕ) → k < length xs → get_or xs k d ≡ by_rules k

@@ -50,7 +50,7 @@ fn place(ap: u32, mode: u32, purpose: Purpose, field: u32, xn: u32) -> usize
     at as usize
 }
 
-// The answer of this number.
+// The answer of this number. The table holds numbers and no rulings: `./rights --source` prints it so, and the gate compares.
 fn ruling_of(number: u8) -> Ruling
     ensures { result ≡ told number }
 {
