@@ -1,31 +1,28 @@
 -- What a byte does, case by case. Assumes nothing.
 use Prim.Native.Nat.{ℕ, suc, ◌+◌, ◌%◌, ◌≤◌, ◌<◌}
-use mathlib.Core.Path.{◌≡◌, ap, ap₂, sym, ◌∙◌}
-use mathlib.Core.Bool.{Bool, true, false, cond}
-use mathlib.Core.List.{List, ◌++◌, append-nil}
+use mathlib.Core.Path.{◌≡◌, ap, ◌∙◌}
+use mathlib.Core.Bool.{true, false}
+use mathlib.Core.List.{List}
 use native.Mathlib.Omega.{arith}
 use native.Mathlib.Nat.{zero-add}
 use lib.Dec.{eqb}
-use lib.ListN.{length, get_or, set, take, drop, replicate, drop_of_length-le, length-replicate, get_or-replicate}
-use lib.Seq.{drop-cons, take_all, paste, paste-suc}
+use lib.ListN.{length, get_or, set, drop, drop_of_length-le}
+use lib.Seq.{drop-cons}
 use borrow.Author.Tests.{lt-ltb, le-ltb, eq-eqb, ne_eqb}
 use Rattle.text.specs.Split.{same}
 use Rattle.names.specs.Names.{newline}
 use Rattle.model.specs.declared.Size.TheVariants.{Four}
 use Rattle.model.specs.step.Memory.{written_at}
 use Rattle.std.specs.declared.option.Option.{Option}
-use Rattle.std.specs.declared.option.Option.TheVariants.{Some, None}
 use Rattle.std.specs.declared.result.Result.TheVariants.{Ok}
 use Rattle.text.specs.Put.{wrote, place_after}
 use Rattle.text.proofs.PutLaws.{wrote_fits}
 use Rattle.lines.specs.Form.{line_names, line_of, pair_text}
-use Rattle.lines.specs.Ways.{gives, refusal, length_fits}
+use Rattle.lines.specs.Ways.{refusal}
 use Rattle.lines.specs.Settings.{image_limit}
-use Rattle.line_reader.specs.declared.Flaw.{Flaw}
 use Rattle.line_reader.specs.declared.Flaw.TheVariants.{Form, Order}
 use Rattle.line_reader.specs.declared.Reader.{Reader}
-use Rattle.line_reader.specs.declared.NoOutput.TheVariants.{ShortBuffer, WrongBuffer}
-use Rattle.line_reader.specs.Reading.{State, turn, late_turn, accept, changed, so_far, one_more, with_byte, names_ended, word_ended, said, line_ended, byte_taken, is_decided, step, feed, line_after, complete, last_test, by_flaw, ending, EndCall, end_call, finished, finished_file}
+use Rattle.line_reader.specs.Reading.{State, turn, late_turn, accept, changed, so_far, one_more, with_byte, names_ended, word_ended, said, line_ended, byte_taken, is_decided, step, feed, line_after, complete, last_test, ending, finished, finished_file}
 
 module _ (b : ℕ) (s : State) where
   -- a byte more of a line

@@ -45,13 +45,12 @@ fn line_after(n: u32) -> u32
 }
 
 // What a line without its newline says.
-#[tactic(auto, unfolding(lines::specs::Form::line_of))]
+#[tactic(auto, unfolding(lines::specs::Form::line_of), using(lines::proofs::LineLaws::one_field))]
 fn read_line(line: &[u8]) -> Option<(u32, u32)>
     ensures { result ≡ line_of line.now }
 {
-    let a = text::read_value(text::until(line, b','))?;
-    let w = text::read_value(text::past(line, b','))?;
-    Some((a, w))
+    let (a, w) = text::cut(line, b',')?;
+    Some((text::read_value(a)?, text::read_value(w)?))
 }
 
 // Puts a refusal in front of what the buffer holds, and tells how long it is.

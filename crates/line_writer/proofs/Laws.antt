@@ -4,20 +4,17 @@ use mathlib.Core.Path.{◌≡◌, refl, ap, ap₂, sym, ◌∙◌, subst}
 use mathlib.Core.Bool.{Bool, true, false, cond}
 use mathlib.Core.List.{List, [], ◌∷◌, ◌++◌}
 use native.Mathlib.Omega.{arith}
-use lib.Dec.{eqb, leb}
+use lib.Dec.{eqb}
 use lib.ListN.{length, get_or, take, drop, length-append, length-drop}
-use lib.Seq.{drop-cons, take_all, length-take-le}
-use borrow.Author.Tests.{ne_eqb, lt-ltb, le-ltb, leb-true}
+use lib.Seq.{drop-cons, take_all}
+use borrow.Author.Tests.{ne_eqb, le-ltb}
 use Rattle.text.specs.Put.{over, has_room, wrote, place_after}
 use Rattle.text.proofs.PutLaws.{over_over, over_none, length_over, wrote_fits}
 use Rattle.lines.specs.Form.{pair_text}
 use Rattle.lines.specs.Words.{is_empty, word_of, has_line, kept, words_from}
-use Rattle.lines.specs.Ways.{gives, refusal, length_fits, lines_text, text_of, lines_of, output}
+use Rattle.lines.specs.Ways.{length_fits, lines_text, text_of, lines_of, output}
 use Rattle.lines.proofs.LineLaws.{pair_most}
-use Rattle.lines.proofs.Theorem.{fits_parts}
-use Rattle.std.specs.declared.result.Result.TheVariants.{Ok}
-use Rattle.line_writer.specs.declared.NoLines.TheVariants.{ShortBuffer, WrongCounts}
-use Rattle.line_writer.specs.Call.{place_after_word, wrote_word, room_for, LinesCall, in_front, left, called}
+use Rattle.line_writer.specs.Call.{place_after_word, wrote_word, room_for, in_front, called}
 
 pub is_empty_lem : (l : List ℕ) → eqb (length l) 0 ≡ is_empty l
 is_empty_lem [] = refl

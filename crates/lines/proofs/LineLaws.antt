@@ -29,6 +29,15 @@ nothing_misspelled : (w : ℕ) → value_of [] ≡ Some w → ⊥
 unfolding value_of spelled lean
 nothing_misspelled w h = let z : ◌≡◌ {A = ℕ} 0 1 = cc in omega arith
 
+-- a line with no comma says nothing
+pub one_field : (l : List ℕ) → has comma l ≡ false → line_of l ≡ None
+unfolding line_of
+one_field l h = go (line_of l) refl
+  where
+    go : (x : Option (ℕ × ℕ)) → line_of l ≡ x → line_of l ≡ None
+    go None e = e
+    go (Some (a, w)) e = absurd (nothing_misspelled w (sym (ap value_of (past_none comma l h)) ∙ (line_values l a w e).1))
+
 pub line_text_lem : (l : List ℕ) (a w : ℕ) → line_of l ≡ Some (a, w) → l ≡ hex_of a ++ (comma ∷ hex_of w)
 line_text_lem l a w h = go (has comma l) refl
   where

@@ -10,7 +10,6 @@ use Rattle.lines.specs.Form.{pair_text}
 use Rattle.lines.specs.Words.{words_from}
 use Rattle.lines.specs.Ways.{lines_text, text_of, lines_of, output}
 use Rattle.lines.proofs.Theorem.{fits_parts}
-use Rattle.line_writer.specs.Call.{room_for}
 use Rattle.line_writer.proofs.Laws.{text_behind, room_text, room_refusal, output_text, output_refusal}
 use Rattle.line_writer.proofs.Front.{output_fits}
 use Rattle.line_writer.proofs.put_output.Goals as goal

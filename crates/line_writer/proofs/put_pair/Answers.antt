@@ -7,7 +7,7 @@ use lib.ListN.{length}
 use Rattle.text.specs.Hex.{hex_of}
 use Rattle.text.specs.Put.{over}
 use Rattle.text.proofs.HexLaws.{hex_length}
-use Rattle.text.proofs.PutLaws.{Written, put_first, put_more, room_left, wrote_yes, wrote_no}
+use Rattle.text.proofs.PutLaws.{put_first, put_more, room_left, wrote_yes, wrote_no}
 use Rattle.names.specs.Names.{comma, newline}
 use Rattle.lines.specs.Form.{pair_text}
 use Rattle.line_writer.proofs.put_pair.Goals as goal

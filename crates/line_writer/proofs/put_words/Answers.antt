@@ -16,8 +16,8 @@ loop-k-preserved c =
     let r = rest_part m (at + 4) in
     let q = c.put_word.ensures in
     let g =
-        going_word m w.out.now w.at at l.w.at l.w.out.now l.invariant.going _ _ (omega arith)
-            (q.place ∙ ap₂ (place_after_word l.w.out.now l.w.at at) e r, q.holds ∙ ap₂ (wrote_word l.w.out.now l.w.at at) e r) in
+    going_word m w.out.now w.at at l.w.at l.w.out.now l.invariant.going _ _ (omega arith)
+    (q.place ∙ ap₂ (place_after_word l.w.out.now l.w.at at) e r, q.holds ∙ ap₂ (wrote_word l.w.out.now l.w.at at) e r) in
     record { same_buffer = search rules; going = subst (λ (n : ℕ). Going m w.out.now w.at n c.put_word.new.w.at c.put_word.new.w.out.now) (let z : at + 4 ≡ 4 * (l.k + 1) = omega arith in z) g }
 
 pub returns : goal.returns

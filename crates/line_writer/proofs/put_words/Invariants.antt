@@ -1,6 +1,5 @@
-use Prim.Native.Nat.{◌*◌, ◌≤◌}
+use Prim.Native.Nat.{◌*◌}
 use mathlib.Core.Path.{◌≡◌}
-use lib.ListN.{length}
 use Rattle.line_writer.proofs.Laws.{Going}
 use Rattle.line_writer.proofs.put_words.Given as goal
 
