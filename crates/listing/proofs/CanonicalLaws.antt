@@ -8,20 +8,14 @@ use native.Mathlib.Omega.{arith}
 use mathlib.Core.Logic.{◌⊎◌, inl, inr, ⊎_elim}
 use lib.ListN.{length, length-append}
 use borrow.Author.Tests.{le-ltb}
+use Rattle.std.specs.Prelude.{Option, Some, None, Result, Ok, Err}
 use Rattle.text.specs.Split.{has, until, past, same}
 use Rattle.text.specs.Hex.{value_of, hex_of}
-use Rattle.text.specs.declared.Value.{Value}
-use Rattle.text.specs.declared.Value.TheVariants.{Number, Misspelled}
 use Rattle.text.proofs.SplitLaws.{join, join_parts, has_append, same_equal, same_refl}
 use Rattle.text.proofs.HexLaws.{hex_some, value_text, text_value, hex_lacks}
 use Rattle.model.specs.declared.Kind.{Kind}
 use Rattle.model.specs.declared.Kind.TheVariants.{Read, Write, Root, Asid, Mode, All, Addr, Ctx, AddrCtx, Fetch, Domain}
 use Rattle.model.specs.declared.Operation.{Operation}
-use Rattle.names.specs.declared.Named.{Named}
-use Rattle.names.specs.declared.Named.TheVariants.{Known, Nothing}
-use Rattle.listing.specs.declared.Line.{Line}
-use Rattle.listing.specs.declared.Line.TheVariants.{Op, Refused}
-use Rattle.listing.specs.declared.Values.TheVariants.{Numbers, Wrong}
 use Rattle.listing.specs.declared.Reason.{Reason}
 use Rattle.listing.specs.declared.Reason.TheVariants.{TooLong, Names, Shape, Unused}
 use Rattle.names.proofs.NameLaws.{name_some, comma_no_digit, newline_no_digit}
@@ -30,92 +24,92 @@ use Rattle.listing.specs.Line.{zeros, used, op_of, judged, values_of, field_a, f
 use Rattle.listing.specs.Whole.{list_limit, too_long, has_names, Ending, finished, stopped, Reading, stopped_at, nothing_left, read_line, if_empty, read_lines, read_list, Accepts, lines_text, list_text, AllValid, more, Canonical}
 
 -- a refusal is no operation
-no_op : {r : Reason} {o : Operation} {A : Type 0} → Refused r ≡ Op o → A
+no_op : {r : Reason} {o : Operation} {A : Type 0} → Err r ≡ Ok o → A
 no_op h = let z : ◌≡◌ {A = ℕ} 0 1 = cc in absurd (omega arith)
 
-pub named_name : (ks : List Kind) (s : List ℕ) (k : Kind) → named_in ks s ≡ Known k → s ≡ name k
+pub named_name : (ks : List Kind) (s : List ℕ) (k : Kind) → named_in ks s ≡ Some k → s ≡ name k
 unfolding named_in
 named_name [] s k h = let z : ◌≡◌ {A = ℕ} 0 1 = cc in absurd (omega arith)
 named_name (j ∷ ks) s k h = go (named_name ks s k) (same s (name j)) refl h
   where
-    go : (named_in ks s ≡ Known k → s ≡ name k) → (t : Bool) → same s (name j) ≡ t → cond t (Known j) (named_in ks s) ≡ Known k → s ≡ name k
+    go : (named_in ks s ≡ Some k → s ≡ name k) → (t : Bool) → same s (name j) ≡ t → cond t (Some j) (named_in ks s) ≡ Some k → s ≡ name k
     go ih true e q = let p : j ≡ k = cc in same_equal s (name j) e ∙ ap name p
     go ih false e q = ih q
 
 -- what a line's parts are where the line holds an operation
 module _ (o : Operation) where
-  op_parts : (k : Kind) (a b c : ℕ) → op_of k a b c ≡ Op o → o ≡ record { kind = k; a = a; b = b; c = c }
+  op_parts : (k : Kind) (a b c : ℕ) → op_of k a b c ≡ Ok o → o ≡ record { kind = k; a = a; b = b; c = c }
   unfolding op_of
   op_parts k a b c h = go (zeros (used k) a b c) h
     where
-      go : (t : Bool) → cond t (Op (record { kind = k; a = a; b = b; c = c })) (Refused Unused) ≡ Op o → o ≡ record { kind = k; a = a; b = b; c = c }
+      go : (t : Bool) → cond t (Ok (record { kind = k; a = a; b = b; c = c })) (Err Unused) ≡ Ok o → o ≡ record { kind = k; a = a; b = b; c = c }
       go true e = cc
       go false e = no_op e
 
-  judged_parts : (n : Named) (a b c : ℕ) → judged n (Numbers a b c) ≡ Op o → (n ≡ Known o.kind) × (a ≡ o.a) × (b ≡ o.b) × (c ≡ o.c)
+  judged_parts : (n : Option Kind) (a b c : ℕ) → judged n (Some (a, b, c)) ≡ Ok o → (n ≡ Some o.kind) × (a ≡ o.a) × (b ≡ o.b) × (c ≡ o.c)
   unfolding judged
-  judged_parts (Known k) a b c h =
+  judged_parts (Some k) a b c h =
       let e = op_parts k a b c h in
-      (sym (ap (λ (q : Operation). Known q.kind) e), sym (ap (λ (q : Operation). q.a) e), sym (ap (λ (q : Operation). q.b) e), sym (ap (λ (q : Operation). q.c) e))
-  judged_parts Nothing a b c h = no_op h
+      (sym (ap (λ (q : Operation). Some q.kind) e), sym (ap (λ (q : Operation). q.a) e), sym (ap (λ (q : Operation). q.b) e), sym (ap (λ (q : Operation). q.c) e))
+  judged_parts None a b c h = no_op h
 
   -- whatever the name, values that are spelled wrong are no operation's
-  wrong_parts : {A : Type 0} (n : Named) → judged n Wrong ≡ Op o → A
+  wrong_parts : {A : Type 0} (n : Option Kind) → judged n None ≡ Ok o → A
   unfolding judged
-  wrong_parts (Known k) h = no_op h
-  wrong_parts Nothing h = no_op h
+  wrong_parts (Some k) h = no_op h
+  wrong_parts None h = no_op h
 
-  value_parts : (n : Named) (a b c : Value) → judged n (values_of a b c) ≡ Op o → (n ≡ Known o.kind) × (a ≡ Number o.a) × (b ≡ Number o.b) × (c ≡ Number o.c)
+  value_parts : (n : Option Kind) (a b c : Option ℕ) → judged n (values_of a b c) ≡ Ok o → (n ≡ Some o.kind) × (a ≡ Some o.a) × (b ≡ Some o.b) × (c ≡ Some o.c)
   unfolding values_of
-  value_parts n (Number a) (Number b) (Number c) h = let e = judged_parts n a b c h in (e.0, ap Number e.1, ap Number e.2, ap Number e.3)
-  value_parts n (Number a) (Number b) Misspelled h = wrong_parts n h
-  value_parts n (Number a) Misspelled c h = wrong_parts n h
-  value_parts n Misspelled b c h = wrong_parts n h
+  value_parts n (Some a) (Some b) (Some c) h = let e = judged_parts n a b c h in (e.0, ap Some e.1, ap Some e.2, ap Some e.3)
+  value_parts n (Some a) (Some b) None h = wrong_parts n h
+  value_parts n (Some a) None c h = wrong_parts n h
+  value_parts n None b c h = wrong_parts n h
 
-  c_parts : (n : Named) (a b : Value) (l : List ℕ) → field_c n a b l ≡ Op o → (n ≡ Known o.kind) × (a ≡ Number o.a) × (b ≡ Number o.b) × (l ≡ hex_of o.c)
+  c_parts : (n : Option Kind) (a b : Option ℕ) (l : List ℕ) → field_c n a b l ≡ Ok o → (n ≡ Some o.kind) × (a ≡ Some o.a) × (b ≡ Some o.b) × (l ≡ hex_of o.c)
   unfolding field_c
   c_parts n a b l h = go (has comma l) h
     where
-      go : (t : Bool) → cond t (Refused Shape) (judged n (values_of a b (value_of l))) ≡ Op o → (n ≡ Known o.kind) × (a ≡ Number o.a) × (b ≡ Number o.b) × (l ≡ hex_of o.c)
+      go : (t : Bool) → cond t (Err Shape) (judged n (values_of a b (value_of l))) ≡ Ok o → (n ≡ Some o.kind) × (a ≡ Some o.a) × (b ≡ Some o.b) × (l ≡ hex_of o.c)
       go true e = no_op e
       go false e = let q = value_parts n a b (value_of l) e in (q.0, q.1, q.2, value_text l o.c q.3)
 
-  b_parts : (n : Named) (a : Value) (l : List ℕ) → field_b n a l ≡ Op o → (n ≡ Known o.kind) × (a ≡ Number o.a) × (l ≡ hex_of o.b ++ (comma ∷ hex_of o.c))
+  b_parts : (n : Option Kind) (a : Option ℕ) (l : List ℕ) → field_b n a l ≡ Ok o → (n ≡ Some o.kind) × (a ≡ Some o.a) × (l ≡ hex_of o.b ++ (comma ∷ hex_of o.c))
   unfolding field_b
   b_parts n a l h = go (has comma l) refl h
     where
-      go : (t : Bool) → has comma l ≡ t → cond t (field_c n a (value_of (until comma l)) (past comma l)) (Refused Shape) ≡ Op o → (n ≡ Known o.kind) × (a ≡ Number o.a) × (l ≡ hex_of o.b ++ (comma ∷ hex_of o.c))
+      go : (t : Bool) → has comma l ≡ t → cond t (field_c n a (value_of (until comma l)) (past comma l)) (Err Shape) ≡ Ok o → (n ≡ Some o.kind) × (a ≡ Some o.a) × (l ≡ hex_of o.b ++ (comma ∷ hex_of o.c))
       go true e q =
           let p = c_parts n a (value_of (until comma l)) (past comma l) q in
           (p.0, p.1, join comma l e ∙ ap₂ (λ (x y : List ℕ). x ++ (comma ∷ y)) (value_text (until comma l) o.b p.2) p.3)
       go false e q = no_op q
 
-  a_parts : (n : Named) (l : List ℕ) → field_a n l ≡ Op o → (n ≡ Known o.kind) × (l ≡ hex_of o.a ++ (comma ∷ (hex_of o.b ++ (comma ∷ hex_of o.c))))
+  a_parts : (n : Option Kind) (l : List ℕ) → field_a n l ≡ Ok o → (n ≡ Some o.kind) × (l ≡ hex_of o.a ++ (comma ∷ (hex_of o.b ++ (comma ∷ hex_of o.c))))
   unfolding field_a
   a_parts n l h = go (has comma l) refl h
     where
-      go : (t : Bool) → has comma l ≡ t → cond t (field_b n (value_of (until comma l)) (past comma l)) (Refused Shape) ≡ Op o → (n ≡ Known o.kind) × (l ≡ hex_of o.a ++ (comma ∷ (hex_of o.b ++ (comma ∷ hex_of o.c))))
+      go : (t : Bool) → has comma l ≡ t → cond t (field_b n (value_of (until comma l)) (past comma l)) (Err Shape) ≡ Ok o → (n ≡ Some o.kind) × (l ≡ hex_of o.a ++ (comma ∷ (hex_of o.b ++ (comma ∷ hex_of o.c))))
       go true e q =
           let p = b_parts n (value_of (until comma l)) (past comma l) q in
           (p.0, join comma l e ∙ ap₂ (λ (x y : List ℕ). x ++ (comma ∷ y)) (value_text (until comma l) o.a p.1) p.2)
       go false e q = no_op q
 
-  fields_text : (l : List ℕ) → fields_of l ≡ Op o → l ≡ name o.kind ++ (comma ∷ (hex_of o.a ++ (comma ∷ (hex_of o.b ++ (comma ∷ hex_of o.c)))))
+  fields_text : (l : List ℕ) → fields_of l ≡ Ok o → l ≡ name o.kind ++ (comma ∷ (hex_of o.a ++ (comma ∷ (hex_of o.b ++ (comma ∷ hex_of o.c)))))
   unfolding fields_of
   fields_text l h = go (has comma l) refl h
     where
-      go : (t : Bool) → has comma l ≡ t → cond t (field_a (named_of (until comma l)) (past comma l)) (Refused Shape) ≡ Op o → l ≡ name o.kind ++ (comma ∷ (hex_of o.a ++ (comma ∷ (hex_of o.b ++ (comma ∷ hex_of o.c)))))
+      go : (t : Bool) → has comma l ≡ t → cond t (field_a (named_of (until comma l)) (past comma l)) (Err Shape) ≡ Ok o → l ≡ name o.kind ++ (comma ∷ (hex_of o.a ++ (comma ∷ (hex_of o.b ++ (comma ∷ hex_of o.c)))))
       go true e q =
           let p = a_parts (named_of (until comma l)) (past comma l) q in
           join comma l e ∙ ap₂ (λ (x y : List ℕ). x ++ (comma ∷ y)) (named_name kinds (until comma l) o.kind p.0) p.1
       go false e q = no_op q
 
   -- a line that holds an operation is the operation's text
-  pub line_text_lem : (l : List ℕ) → line_of l ≡ Op o → l ≡ line_text o ++ past newline l
+  pub line_text_lem : (l : List ℕ) → line_of l ≡ Ok o → l ≡ line_text o ++ past newline l
   unfolding line_of line_text
   line_text_lem l h = go (has newline l) refl h
     where
-      go : (t : Bool) → has newline l ≡ t → cond t (fields_of (until newline l)) (Refused Shape) ≡ Op o → l ≡ (name o.kind ++ (comma ∷ (hex_of o.a ++ (comma ∷ (hex_of o.b ++ (comma ∷ (hex_of o.c ++ (newline ∷ [])))))))) ++ past newline l
+      go : (t : Bool) → has newline l ≡ t → cond t (fields_of (until newline l)) (Err Shape) ≡ Ok o → l ≡ (name o.kind ++ (comma ∷ (hex_of o.a ++ (comma ∷ (hex_of o.b ++ (comma ∷ (hex_of o.c ++ (newline ∷ [])))))))) ++ past newline l
       go true e q = join newline l e ∙ ap (λ (x : List ℕ). x ++ (newline ∷ past newline l)) (fields_text (until newline l) q) ∙ simp append_assoc
       go false e q = no_op q
 
@@ -127,13 +121,13 @@ no_list : {n : ℕ} {x : Reason} {os : List Operation} {A : Type 0} → stopped_
 no_list {n} {x} h = let e : stopped n x ≡ finished = ap (λ (r : Reading). r.ending) h in let z : ◌≡◌ {A = ℕ} 0 1 = cc in absurd (omega arith)
 
 -- a line in front of what is accepted
-step_text : (n : ℕ) (l : List ℕ) (i : Line) (q : Reading) (os : List Operation) → line_of l ≡ i → ((ps : List Operation) → q ≡ all ps → past newline l ≡ lines_text ps) → read_line n i q ≡ all os → l ≡ lines_text os
+step_text : (n : ℕ) (l : List ℕ) (i : Result Operation Reason) (q : Reading) (os : List Operation) → line_of l ≡ i → ((ps : List Operation) → q ≡ all ps → past newline l ≡ lines_text ps) → read_line n i q ≡ all os → l ≡ lines_text os
 unfolding lines_text
-step_text n l (Op o) q os e ih h =
+step_text n l (Ok o) q os e ih h =
     let f : q.ending ≡ finished = ap (λ (r : Reading). r.ending) h in
     let p : o ∷ q.operations ≡ os = ap (λ (r : Reading). r.operations) h in
     line_text_lem o l e ∙ ap (λ (x : List ℕ). line_text o ++ x) (ih q.operations (ap (λ (z : Ending). record { operations = q.operations; ending = z }) f)) ∙ ap lines_text p
-step_text n l (Refused r) q os e ih h = no_list h
+step_text n l (Err r) q os e ih h = no_list h
 
 none_text : (os : List Operation) → nothing_left ≡ all os → [] ≡ lines_text os
 unfolding lines_text
@@ -164,7 +158,7 @@ list_text_lem l os h = go (too_long l) (has newline l) refl (same (until newline
     go true t e u f q = no_list q
 
 -- the other way: the text of operations that have lines is accepted
-named_known : (k : Kind) → named_of (name k) ≡ Known k
+named_known : (k : Kind) → named_of (name k) ≡ Some k
 unfolding named_in same
 named_known Read = refl
 named_known Write = refl
@@ -194,7 +188,7 @@ name_lacks b w Domain = ⊎_elim (λ e. rw e) (λ e. rw e) w
 
 -- the line of an operation, and what follows it
 module _ (o : Operation) (v : Valid o) where
-  text_fields : fields_of (name o.kind ++ (comma ∷ (hex_of o.a ++ (comma ∷ (hex_of o.b ++ (comma ∷ hex_of o.c)))))) ≡ Op o
+  text_fields : fields_of (name o.kind ++ (comma ∷ (hex_of o.a ++ (comma ∷ (hex_of o.b ++ (comma ∷ hex_of o.c)))))) ≡ Ok o
   unfolding fields_of field_a field_b field_c values_of judged op_of
   text_fields =
       let c = hex_of o.c in
@@ -226,7 +220,7 @@ module _ (o : Operation) (v : Valid o) where
         (comma_more (hex_of o.b) _ (hex_lacks newline o.b newline_no_digit v.b_fits)
         (hex_lacks newline o.c newline_no_digit v.c_fits)))
 
-    pub text_line : (line_of (line_text o ++ rest) ≡ Op o) × (past newline (line_text o ++ rest) ≡ rest) × (has newline (line_text o ++ rest) ≡ true)
+    pub text_line : (line_of (line_text o ++ rest) ≡ Ok o) × (past newline (line_text o ++ rest) ≡ rest) × (has newline (line_text o ++ rest) ≡ true)
     unfolding line_of body
     text_line =
         let p = join_parts newline body rest body_lacks in
@@ -249,7 +243,7 @@ text_ops (o ∷ os) zero n v h = absurd (omega arith)
 text_ops (o ∷ os) (suc turns) n (more w v) h =
     let p = text_line o w (lines_text os) in
     not_empty newline (line_text o ++ lines_text os) nothing_left _ p.2
-    ∙ rw (p.0, p.1) (ap (λ (r : Reading). read_line n (Op o) r) (text_ops os turns (suc n) v (omega arith)))
+    ∙ rw (p.0, p.1) (ap (λ (r : Reading). read_line n (Ok o) r) (text_ops os turns (suc n) v (omega arith)))
 
 line_length : (o : Operation) → 1 ≤ length (line_text o)
 unfolding line_text
@@ -276,5 +270,5 @@ pub line_long : (o : Operation) → 10 ≤ length (line_text o)
 unfolding line_text
 line_long o = simp length-append (omega (arith, name_some o.kind, hex_some o.a, hex_some o.b, hex_some o.c))
 
-pub line_rest : (o : Operation) (l : List ℕ) → line_of l ≡ Op o → length (past newline l) + 10 ≤ length l
+pub line_rest : (o : Operation) (l : List ℕ) → line_of l ≡ Ok o → length (past newline l) + 10 ≤ length l
 line_rest o l h = omega (arith, line_long o, ap length (line_text_lem o l h), length-append (line_text o) (past newline l))

@@ -5,14 +5,15 @@ use mathlib.Core.Path.{◌≡◌, refl}
 use mathlib.Core.List.{List, [], ◌∷◌, map}
 use mathlib.Core.Option.{some}
 use lib.ListN.{replicate}
+use Rattle.std.specs.Prelude.{Result, Ok}
 use Rattle.text.specs.Split.{has, until, past, same}
 use Rattle.text.specs.Hex.{digit, digits, number, lean, spelled, value_of}
 use Rattle.text.specs.Quoted.{quoted_from, quoted}
 use Rattle.names.specs.Names.{named_in}
 use Rattle.model.specs.declared.Kind.{Kind}
 use Rattle.model.specs.declared.Kind.TheVariants.{Read, Write, Root, Asid, Mode, All, Addr, Ctx, AddrCtx, Fetch, Domain}
-use Rattle.listing.specs.declared.Line.{Line}
-use Rattle.listing.specs.declared.Line.TheVariants.{Op}
+use Rattle.model.specs.declared.Operation.{Operation}
+use Rattle.listing.specs.declared.Reason.{Reason}
 use Rattle.listing.specs.Line.{spare, zeros, op_of, judged, values_of, field_a, field_b, field_c, fields_of, line_of}
 use Rattle.listing.specs.Whole.{line_number}
 
@@ -37,8 +38,8 @@ used_lines =
     "read,1,2,0\n" ∷ "write,1,2,3\n" ∷ "root,1,0,0\n" ∷ "asid,1,0,0\n" ∷ "mode,1,0,0\n" ∷ "all,0,0,0\n" ∷ "addr,1,0,0\n" ∷ "ctx,1,0,0\n"
     ∷ "addrctx,1,2,0\n" ∷ "fetch,1,0,0\n" ∷ "domain,1,0,0\n" ∷ []
 
-abbrev said : Kind → ℕ → ℕ → ℕ → Line
-said k a b c = Op (record { kind = k; a = a; b = b; c = c })
+abbrev said : Kind → ℕ → ℕ → ℕ → Result Operation Reason
+said k a b c = Ok (record { kind = k; a = a; b = b; c = c })
 
 -- all of the first are turned back by 6
 pub unused_cases : map (λ s. line_number (line_of (quoted s))) unused_lines ≡ replicate 19 (some 6)

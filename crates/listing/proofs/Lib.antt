@@ -1,5 +1,4 @@
 -- Laws of lines, the canonical theorem, the theorem on refusals, and cases.
-pub mod LineLaws
 pub mod CanonicalLaws
 pub mod RefusalLaws
 pub mod FieldCases

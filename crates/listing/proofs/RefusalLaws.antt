@@ -5,29 +5,25 @@ use mathlib.Core.Path.{◌≡◌, refl, ap, ap₂, sym, ◌∙◌, subst}
 use mathlib.Core.Bool.{Bool, true, false, cond, not, ◌&&◌, ◌||◌, and-true, or-false}
 use mathlib.Core.Logic.{◌⊎◌, inl, inr, ◌↔◌}
 use mathlib.Core.List.{List, [], ◌∷◌}
-use mathlib.Core.Option.{Option, none, some}
+use mathlib.Core.Option.{Option as Maybe, none, some}
 use native.Mathlib.Omega.{arith}
 use lib.Dec.{eqb, leb, ltb}
 use lib.ListN.{length, drop}
 use borrow.Author.Tests.{eq-eqb, ne_eqb, eqb-true, le-leb, leb-true, lt-ltb}
+use Rattle.std.specs.Prelude.{Option, Some, None, Result, Ok, Err}
 use Rattle.text.specs.Split.{has, until, past, same}
 use Rattle.text.specs.Hex.{digit, digits, glyph, number, lean, spelled, value_of, spell, hex_of}
-use Rattle.text.specs.declared.Value.{Value}
-use Rattle.text.specs.declared.Value.TheVariants.{Number, Misspelled}
 use Rattle.text.proofs.SplitLaws.{same_equal, same_refl, past_none, past_shorter}
 use Rattle.text.proofs.HexLaws.{value_text}
-use Rattle.names.specs.declared.Named.{Named}
-use Rattle.names.specs.declared.Named.TheVariants.{Known, Nothing}
 use Rattle.names.specs.Names.{comma, newline, names, name, kinds, named_in, named_of}
 use Rattle.model.specs.declared.Kind.{Kind}
 use Rattle.model.specs.declared.Kind.TheVariants.{Read, Write, Root, Asid, Mode, All, Addr, Ctx, AddrCtx, Fetch, Domain}
 use Rattle.model.specs.reference.Rules.{Given}
 use Rattle.model.proofs.BoolLaws.{same_test, not_leb}
 use Rattle.model.proofs.Calls.{first_holding, given_first, first_given, none_some, none_holds}
-use Rattle.listing.specs.declared.Line.{Line}
-use Rattle.listing.specs.declared.Line.TheVariants.{Op, Refused}
-use Rattle.listing.specs.declared.Values.TheVariants.{Numbers, Wrong}
 use Rattle.listing.specs.declared.Reason.TheVariants.{TooLong, Names, Shape, Unused}
+use Rattle.model.specs.declared.Operation.{Operation}
+use Rattle.listing.specs.declared.Reason.{Reason}
 use Rattle.listing.specs.Line.{used, spare, zeros, op_of, judged, values_of, field_a, field_b, field_c, fields_of, line_of}
 use Rattle.listing.specs.Whole.{list_number, line_number, too_long, has_names, Ending, finished, stopped, ending_number, Reading, stopped_at, read_line, read_lines, read_rest, read_list}
 use Rattle.listing.specs.Refusals.{any, every, in_front, parts, Written, lines_of, lines_in, first_line, field, is_digit, leading_zero, is_value, zero_text, unused, refuses1, refuses2, refuses3, refuses4, refuses5, refuses6, conditions_of, of_line, line_conditions, numbered, list_conditions, GivenAt, RefusedExactly}
@@ -96,54 +92,54 @@ rest_lines (x ∷ xs) = rw (lines_split x xs)
 -- ── Fields ──
 
 -- a field and those after it, and the last field
-unfoldable taken : (List ℕ → List (List ℕ) → Line) → List (List ℕ) → Line
-taken g [] = Refused Shape
+unfoldable taken : (List ℕ → List (List ℕ) → Result Operation Reason) → List (List ℕ) → Result Operation Reason
+taken g [] = Err Shape
 taken g (p ∷ ps) = g p ps
 
-unfoldable only : (List ℕ → Line) → List (List ℕ) → Line
-only g [] = Refused Shape
+unfoldable only : (List ℕ → Result Operation Reason) → List (List ℕ) → Result Operation Reason
+only g [] = Err Shape
 only g (p ∷ []) = g p
-only g (p ∷ q ∷ ps) = Refused Shape
+only g (p ∷ q ∷ ps) = Err Shape
 
-take_field : (f : List ℕ → List ℕ → Line) (g : List ℕ → List (List ℕ) → Line) → ((p q : List ℕ) → f p q ≡ g p (parts comma q)) → ((p : List ℕ) → g p [] ≡ Refused Shape) →
-    (l : List ℕ) → cond (has comma l) (f (until comma l) (past comma l)) (Refused Shape) ≡ taken g (parts comma l)
+take_field : (f : List ℕ → List ℕ → Result Operation Reason) (g : List ℕ → List (List ℕ) → Result Operation Reason) → ((p q : List ℕ) → f p q ≡ g p (parts comma q)) → ((p : List ℕ) → g p [] ≡ Err Shape) →
+    (l : List ℕ) → cond (has comma l) (f (until comma l) (past comma l)) (Err Shape) ≡ taken g (parts comma l)
 unfolding taken
 take_field f g h z l = go (has comma l) (parts_split comma l)
   where
-    go : (t : Bool) → parts comma l ≡ split t comma l → cond t (f (until comma l) (past comma l)) (Refused Shape) ≡ taken g (parts comma l)
+    go : (t : Bool) → parts comma l ≡ split t comma l → cond t (f (until comma l) (past comma l)) (Err Shape) ≡ taken g (parts comma l)
     go true e = h (until comma l) (past comma l) ∙ sym (ap (taken g) e)
     go false e = sym (z l) ∙ sym (ap (taken g) e)
 
-last_field : (g : List ℕ → Line) (l : List ℕ) → cond (has comma l) (Refused Shape) (g l) ≡ only g (parts comma l)
+last_field : (g : List ℕ → Result Operation Reason) (l : List ℕ) → cond (has comma l) (Err Shape) (g l) ≡ only g (parts comma l)
 unfolding only
 last_field g l = go (has comma l) (parts_split comma l)
   where
-    go : (t : Bool) → parts comma l ≡ split t comma l → cond t (Refused Shape) (g l) ≡ only g (parts comma l)
+    go : (t : Bool) → parts comma l ≡ split t comma l → cond t (Err Shape) (g l) ≡ only g (parts comma l)
     go true e = let p = some_part comma (past comma l) in sym (ap (only g) (e ∙ ap (λ (ps : List (List ℕ)). until comma l ∷ ps) p.2))
     go false e = sym (ap (only g) e)
 
 -- the fields of a line are its parts at commas
-abbrev of_c : Named → Value → Value → List (List ℕ) → Line
+abbrev of_c : Option Kind → Option ℕ → Option ℕ → List (List ℕ) → Result Operation Reason
 of_c n a b = only (λ c. judged n (values_of a b (value_of c)))
 
-abbrev of_b : Named → Value → List (List ℕ) → Line
+abbrev of_b : Option Kind → Option ℕ → List (List ℕ) → Result Operation Reason
 of_b n a = taken (λ b. of_c n a (value_of b))
 
-abbrev of_a : Named → List (List ℕ) → Line
+abbrev of_a : Option Kind → List (List ℕ) → Result Operation Reason
 of_a n = taken (λ a. of_b n (value_of a))
 
-abbrev of_fields : List (List ℕ) → Line
+abbrev of_fields : List (List ℕ) → Result Operation Reason
 of_fields = taken (λ o. of_a (named_of o))
 
-c_same : (n : Named) (a b : Value) (l : List ℕ) → field_c n a b l ≡ of_c n a b (parts comma l)
+c_same : (n : Option Kind) (a b : Option ℕ) (l : List ℕ) → field_c n a b l ≡ of_c n a b (parts comma l)
 unfolding field_c
 c_same n a b l = last_field (λ c. judged n (values_of a b (value_of c))) l
 
-b_same : (n : Named) (a : Value) (l : List ℕ) → field_b n a l ≡ of_b n a (parts comma l)
+b_same : (n : Option Kind) (a : Option ℕ) (l : List ℕ) → field_b n a l ≡ of_b n a (parts comma l)
 unfolding field_b only
 b_same n a l = take_field (λ p q. field_c n a (value_of p) q) (λ b. of_c n a (value_of b)) (λ p q. c_same n a (value_of p) q) (λ p. refl) l
 
-a_same : (n : Named) (l : List ℕ) → field_a n l ≡ of_a n (parts comma l)
+a_same : (n : Option Kind) (l : List ℕ) → field_a n l ≡ of_a n (parts comma l)
 unfolding field_a taken
 a_same n l = take_field (λ p q. field_b n (value_of p) q) (λ a. of_b n (value_of a)) (λ p q. b_same n (value_of p) q) (λ p. refl) l
 
@@ -193,7 +189,7 @@ value_same (x ∷ y ∷ ys) =
     go true false false = refl
     go false u v = refl
 
-pub value_read : (s : List ℕ) → value_of s ≡ cond (is_value s) (Number (number 0 s)) Misspelled
+pub value_read : (s : List ℕ) → value_of s ≡ cond (is_value s) (Some (number 0 s)) None
 unfolding value_of
 value_read s = rw (value_same s)
 
@@ -213,7 +209,7 @@ zero_same s h = same_test (eqb (number 0 s) 0) (same s zero_text) to from
   where
     to : eqb (number 0 s) 0 ≡ true → same s zero_text ≡ true
     to e =
-        let v : value_of s ≡ Number 0 = value_read s ∙ rw (h, eqb-true (number 0 s) 0 e) in
+        let v : value_of s ≡ Some 0 = value_read s ∙ rw (h, eqb-true (number 0 s) 0 e) in
         ap (λ (t : List ℕ). same t zero_text) (value_text s 0 v ∙ zero_text_lem) ∙ same_refl zero_text
 
     from : same s zero_text ≡ true → eqb (number 0 s) 0 ≡ true
@@ -295,22 +291,22 @@ module _ (a b c : List ℕ) where
   own_name Fetch = (refl, refl)
   own_name Domain = (refl, refl)
 
-no_name : (ks : List Kind) (s : List ℕ) → named_in ks s ≡ Nothing → any (λ k. same s (name k)) ks ≡ false
+no_name : (ks : List Kind) (s : List ℕ) → named_in ks s ≡ None → any (λ k. same s (name k)) ks ≡ false
 unfolding any named_in
 no_name [] s h = refl
 no_name (k ∷ ks) s h = go (no_name ks s) (same s (name k)) h
   where
-    go : (named_in ks s ≡ Nothing → any (λ j. same s (name j)) ks ≡ false) → (t : Bool) → cond t (Known k) (named_in ks s) ≡ Nothing → (t || any (λ j. same s (name j)) ks) ≡ false
+    go : (named_in ks s ≡ None → any (λ j. same s (name j)) ks ≡ false) → (t : Bool) → cond t (Some k) (named_in ks s) ≡ None → (t || any (λ j. same s (name j)) ks) ≡ false
     go ih true e = let z : ◌≡◌ {A = ℕ} 0 1 = cc in absurd (omega arith)
     go ih false e = ih e
 
 -- ── A line ──
 
 -- a value that is spelled wrong gives 4, whatever the name
-spelling_first : (n : Named) → line_number (judged n Wrong) ≡ some 4
+spelling_first : (n : Option Kind) → line_number (judged n None) ≡ some 4
 unfolding judged
-spelling_first (Known k) = refl
-spelling_first Nothing = refl
+spelling_first (Some k) = refl
+spelling_first None = refl
 
 module _ (o a b c : List ℕ) (va : is_value a ≡ true) (vb : is_value b ≡ true) (vc : is_value c ≡ true) where
   zeros_same : (k : Kind) → zeros (used k) (number 0 a) (number 0 b) (number 0 c) ≡ not (not_zero k (four o a b c))
@@ -321,26 +317,26 @@ module _ (o a b c : List ℕ) (va : is_value a ≡ true) (vb : is_value b ≡ tr
   unfolding op_of
   made_number k = rw (zeros_same k) (go (not_zero k (four o a b c)))
     where
-      go : (t : Bool) → line_number (cond (not t) (Op (record { kind = k; a = number 0 a; b = number 0 b; c = number 0 c })) (Refused Unused)) ≡ cond t (some 6) none
+      go : (t : Bool) → line_number (cond (not t) (Ok (record { kind = k; a = number 0 a; b = number 0 b; c = number 0 c })) (Err Unused)) ≡ cond t (some 6) none
       go true = refl
       go false = refl
 
-  named_number : line_number (judged (named_of o) (Numbers (number 0 a) (number 0 b) (number 0 c))) ≡ first_holding ((5, refuses5 (four o a b c)) ∷ (6, refuses6 (four o a b c)) ∷ [])
+  named_number : line_number (judged (named_of o) (Some ((number 0 a), (number 0 b), (number 0 c)))) ≡ first_holding ((5, refuses5 (four o a b c)) ∷ (6, refuses6 (four o a b c)) ∷ [])
   unfolding first_holding judged
   named_number = go (named_of o) refl
     where
-      go : (n : Named) → named_of o ≡ n → line_number (judged n (Numbers (number 0 a) (number 0 b) (number 0 c))) ≡ cond (refuses5 (four o a b c)) (some 5) (cond (refuses6 (four o a b c)) (some 6) none)
-      go (Known k) e =
+      go : (n : Option Kind) → named_of o ≡ n → line_number (judged n (Some ((number 0 a), (number 0 b), (number 0 c)))) ≡ cond (refuses5 (four o a b c)) (some 5) (cond (refuses6 (four o a b c)) (some 6) none)
+      go (Some k) e =
           let told : Told a b c k o = subst (Told a b c k) (sym (named_name kinds o k e)) (own_name a b c k) in
           rw (told.0, told.1, or-false (not_zero k (four o a b c))) (made_number k)
-      go Nothing e = unfold refuses5 in rw (no_name kinds o e)
+      go None e = unfold refuses5 in rw (no_name kinds o e)
 
 four_number : (o a b c : List ℕ) → line_number (judged (named_of o) (values_of (value_of a) (value_of b) (value_of c))) ≡ first_holding ((4, refuses4 (four o a b c)) ∷ (5, refuses5 (four o a b c)) ∷ (6, refuses6 (four o a b c)) ∷ [])
 unfolding refuses4 first_holding values_of
 four_number o a b c = rw (value_read a, value_read b, value_read c) (go (is_value a) refl (is_value b) refl (is_value c) refl)
   where
     go : (t : Bool) → is_value a ≡ t → (u : Bool) → is_value b ≡ u → (v : Bool) → is_value c ≡ v →
-        line_number (judged (named_of o) (values_of (cond t (Number (number 0 a)) Misspelled) (cond u (Number (number 0 b)) Misspelled) (cond v (Number (number 0 c)) Misspelled)))
+        line_number (judged (named_of o) (values_of (cond t (Some (number 0 a)) None) (cond u (Some (number 0 b)) None) (cond v (Some (number 0 c)) None)))
         ≡ cond (not (t && u && v)) (some 4) (first_holding ((5, refuses5 (four o a b c)) ∷ (6, refuses6 (four o a b c)) ∷ []))
     go true e true f true g = named_number o a b c e f g
     go true e true f false g = spelling_first (named_of o)
@@ -360,25 +356,25 @@ line_number_lem : (l : List ℕ) → line_number (line_of l) ≡ first_holding (
 unfolding line_of
 line_number_lem l = go (has newline l)
   where
-    go : (t : Bool) → line_number (cond t (fields_of (until newline l)) (Refused Shape)) ≡ first_holding (of_line (written t l))
+    go : (t : Bool) → line_number (cond t (fields_of (until newline l)) (Err Shape)) ≡ first_holding (of_line (written t l))
     go true = ap line_number (fields_same (until newline l)) ∙ fields_number (parts comma (until newline l))
     go false = unfold first_holding conditions_of refuses3 in refl
 
 -- ── A whole list ──
 
 -- the number given for a line, or what is given after it
-unfoldable pub first_of : ℕ → Option ℕ → Option (ℕ × ℕ) → Option (ℕ × ℕ)
+unfoldable pub first_of : ℕ → Maybe ℕ → Maybe (ℕ × ℕ) → Maybe (ℕ × ℕ)
 first_of n none y = y
 first_of n (some r) y = some (n, r)
 
-unfoldable pub first_at : List (ℕ × List (ℕ × Bool)) → Option (ℕ × ℕ)
+unfoldable pub first_at : List (ℕ × List (ℕ × Bool)) → Maybe (ℕ × ℕ)
 first_at [] = none
 first_at (x ∷ xs) = first_of x.0 (first_holding x.1) (first_at xs)
 
-read_number : (n : ℕ) (i : Line) (q : Reading) → ending_number (read_line n i q).ending ≡ first_of n (line_number i) (ending_number q.ending)
+read_number : (n : ℕ) (i : Result Operation Reason) (q : Reading) → ending_number (read_line n i q).ending ≡ first_of n (line_number i) (ending_number q.ending)
 unfolding first_of
-read_number n (Op o) q = refl
-read_number n (Refused x) q = refl
+read_number n (Ok o) q = refl
+read_number n (Err x) q = refl
 
 lines_number : (turns n : ℕ) (l : List ℕ) → length l ≤ turns → ending_number (read_lines turns n l).ending ≡ first_at (numbered n (lines_in l))
 unfolding read_lines numbered first_at
@@ -425,11 +421,11 @@ unfolding GivenAt first_at
 at_given n r [] p = absurd (none_some (n, r) p)
 at_given n r (x ∷ xs) p = go (first_holding x.1) refl p (at_given n r xs)
   where
-    go : (y : Option ℕ) → first_holding x.1 ≡ y → first_of x.0 y (first_at xs) ≡ some (n, r) → (first_at xs ≡ some (n, r) → GivenAt n r xs) →
+    go : (y : Maybe ℕ) → first_holding x.1 ≡ y → first_of x.0 y (first_at xs) ≡ some (n, r) → (first_at xs ≡ some (n, r) → GivenAt n r xs) →
         ((x.0 ≡ n) × Given r x.1) ⊎ (((s : ℕ) → Given s x.1 → ⊥) × GivenAt n r xs)
     go none e q rest = inr ((λ s g. none_some s (sym e ∙ given_first x.1 s g)), rest (unfold first_of in q))
     go (some s) e q rest =
-        let given : ◌≡◌ {A = Option (ℕ × ℕ)} (some (x.0, s)) (some (n, r)) = unfold first_of in q in
+        let given : ◌≡◌ {A = Maybe (ℕ × ℕ)} (some (x.0, s)) (some (n, r)) = unfold first_of in q in
         let pair : ◌≡◌ {A = ℕ × ℕ} (x.0, s) (n, r) = cc in
         inl (ap (λ (y : ℕ × ℕ). y.0) pair, first_given x.1 r (e ∙ ap (λ (y : ℕ × ℕ). some y.1) pair))
 

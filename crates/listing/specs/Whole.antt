@@ -1,10 +1,8 @@
 -- A whole list: its operations up to its end or its first refusal, and the text of operations.
-use Rattle.std.specs.Prelude.{ℕ, zero, suc, ◌≤◌, ◌≡◌, Bool, false, cond, List, [], ◌∷◌, ◌++◌, ltb, length}
+use Rattle.std.specs.Prelude.{ℕ, zero, suc, ◌≤◌, ◌≡◌, Bool, false, cond, List, [], ◌∷◌, ◌++◌, Result, Ok, Err, ltb, length}
 use Rattle.std.proofs.Math.Option.{Option, none, some}
 use Rattle.text.specs.Split.{has, until, past, same}
 use Rattle.model.specs.declared.Operation.{Operation}
-use Rattle.listing.specs.declared.Line.{Line}
-use Rattle.listing.specs.declared.Line.TheVariants.{Op, Refused}
 use Rattle.listing.specs.declared.Reason.{Reason}
 use Rattle.listing.specs.declared.Reason.TheVariants.{TooLong, Names, Shape, Spelling, Unknown, Unused}
 use Rattle.names.specs.Names.{newline, names}
@@ -20,9 +18,9 @@ list_number Unknown = 5
 list_number Unused = 6
 
 -- the number of what a line says: none where it is an operation
-abbrev pub line_number : Line → Option ℕ
-line_number (Op o) = none
-line_number (Refused x) = some (list_number x)
+abbrev pub line_number : Result Operation Reason → Option ℕ
+line_number (Ok o) = none
+line_number (Err x) = some (list_number x)
 
 -- how many bytes a list may have
 abbrev pub list_limit : ℕ
@@ -57,9 +55,9 @@ abbrev pub nothing_left : Reading
 nothing_left = record { operations = []; ending = finished }
 
 -- a line, line n, in front of what is read of the rest
-abbrev pub read_line : ℕ → Line → Reading → Reading
-read_line n (Op o) r = record { operations = o ∷ r.operations; ending = r.ending }
-read_line n (Refused x) r = stopped_at n x
+abbrev pub read_line : ℕ → Result Operation Reason → Reading → Reading
+read_line n (Ok o) r = record { operations = o ∷ r.operations; ending = r.ending }
+read_line n (Err x) r = stopped_at n x
 
 abbrev pub if_empty : {A : Type 0} → List ℕ → A → A → A
 if_empty [] p q = p

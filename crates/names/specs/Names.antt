@@ -1,12 +1,10 @@
 -- The bytes of a list: separators, the names line, and the names of the operations, which are compared with and written.
-use Rattle.std.specs.Prelude.{ℕ, ◌≡◌, cond, List, [], ◌∷◌, map}
+use Rattle.std.specs.Prelude.{ℕ, ◌≡◌, cond, List, [], ◌∷◌, Option, Some, None, map}
 use Rattle.text.specs.Quoted.{quoted}
 use Rattle.model.specs.Numbers.{kind_number}
 use Rattle.text.specs.Split.{same}
 use Rattle.model.specs.declared.Kind.{Kind}
 use Rattle.model.specs.declared.Kind.TheVariants.{Read, Write, Root, Asid, Mode, All, Addr, Ctx, AddrCtx, Fetch, Domain}
-use Rattle.names.specs.declared.Named.{Named}
-use Rattle.names.specs.declared.Named.TheVariants.{Known, Nothing}
 
 abbrev pub comma : ℕ
 comma = 44
@@ -37,11 +35,11 @@ abbrev pub kinds : List Kind
 kinds = Read ∷ Write ∷ Root ∷ Asid ∷ Mode ∷ All ∷ Addr ∷ Ctx ∷ AddrCtx ∷ Fetch ∷ Domain ∷ []
 
 -- the operation among ks that a name names
-unfoldable pub named_in : List Kind → List ℕ → Named
-named_in [] s = Nothing
-named_in (k ∷ ks) s = cond (same s (name k)) (Known k) (named_in ks s)
+unfoldable pub named_in : List Kind → List ℕ → Option Kind
+named_in [] s = None
+named_in (k ∷ ks) s = cond (same s (name k)) (Some k) (named_in ks s)
 
-abbrev pub named_of : List ℕ → Named
+abbrev pub named_of : List ℕ → Option Kind
 named_of s = named_in kinds s
 
 -- The same in letters: the names line, and the names of the operations in the order of their numbers.

@@ -1,85 +1,61 @@
 // The names of the operations: one function compares with them, one writes them, and both are tied to one definition.
 #![tactic(auto)]
 
-ghost use Rattle.std.specs.Prelude.{◌≡◌, ◌+◌, ◌≤◌, length};
-ghost use Rattle.text.specs.Put.{over, wrote, place_after};
+ghost use Rattle.std.specs.Prelude.{◌≡◌};
+ghost use Rattle.text.specs.Put.{wrote, place_after};
 ghost use Rattle.names.specs.Names.{name, named_of};
 
 use model::Kind;
-
-// What an operation's name names.
-#[derive(Clone, Copy)]
-pub enum Named {
-    Known(Kind),
-    Nothing,
-}
+use text::Writer;
 
 // The operation that a name names.
-pub fn name_of(s: &[u8]) -> Named
+#[tactic(auto, using(crate::proofs::NameLaws::named_short, crate::proofs::NameLaws::named_3, crate::proofs::NameLaws::named_4, crate::proofs::NameLaws::named_5, crate::proofs::NameLaws::named_6, crate::proofs::NameLaws::named_7, crate::proofs::NameLaws::named_long))]
+pub fn name_of(s: &[u8]) -> Option<Kind>
     ensures { result ≡ named_of s.now }
 {
-    if text::same(s, b"read") {
-        return Named::Known(Kind::Read);
+    match s {
+        b"read" => Some(Kind::Read),
+        b"write" => Some(Kind::Write),
+        b"root" => Some(Kind::Root),
+        b"asid" => Some(Kind::Asid),
+        b"mode" => Some(Kind::Mode),
+        b"all" => Some(Kind::All),
+        b"addr" => Some(Kind::Addr),
+        b"ctx" => Some(Kind::Ctx),
+        b"addrctx" => Some(Kind::AddrCtx),
+        b"fetch" => Some(Kind::Fetch),
+        b"domain" => Some(Kind::Domain),
+        _ => None,
     }
-    if text::same(s, b"write") {
-        return Named::Known(Kind::Write);
+}
+
+// The name of an operation.
+fn text_of(k: Kind) -> &'static [u8]
+    ensures { result.now ≡ name k }
+{
+    match k {
+        Kind::Read => b"read",
+        Kind::Write => b"write",
+        Kind::Root => b"root",
+        Kind::Asid => b"asid",
+        Kind::Mode => b"mode",
+        Kind::All => b"all",
+        Kind::Addr => b"addr",
+        Kind::Ctx => b"ctx",
+        Kind::AddrCtx => b"addrctx",
+        Kind::Fetch => b"fetch",
+        Kind::Domain => b"domain",
     }
-    if text::same(s, b"root") {
-        return Named::Known(Kind::Root);
-    }
-    if text::same(s, b"asid") {
-        return Named::Known(Kind::Asid);
-    }
-    if text::same(s, b"mode") {
-        return Named::Known(Kind::Mode);
-    }
-    if text::same(s, b"all") {
-        return Named::Known(Kind::All);
-    }
-    if text::same(s, b"addr") {
-        return Named::Known(Kind::Addr);
-    }
-    if text::same(s, b"ctx") {
-        return Named::Known(Kind::Ctx);
-    }
-    if text::same(s, b"addrctx") {
-        return Named::Known(Kind::AddrCtx);
-    }
-    if text::same(s, b"fetch") {
-        return Named::Known(Kind::Fetch);
-    }
-    if text::same(s, b"domain") {
-        return Named::Known(Kind::Domain);
-    }
-    Named::Nothing
 }
 
 // Puts the name of an operation, where 7 bytes are left for it.
-pub fn put_name(out: &mut [u8], at: usize, k: Kind) -> usize
-    ensures { (result ≡ place_after 7 out.old at (name k)) × (out.new ≡ wrote 7 out.old at (name k)) }
+#[tactic(auto, unfolding(text::specs::Put::wrote, text::specs::Put::place_after), using(text::proofs::PutLaws::put_fits, crate::proofs::NameLaws::name_most))]
+pub fn put_name(w: &mut Writer, k: Kind)
+    ensures same_buffer { w.new.out.ghost_name ≡ w.old.out.ghost_name }
+    ensures place { w.new.at ≡ place_after 7 w.old.out.now w.old.at (name k) }
+    ensures holds { w.new.out.now ≡ wrote 7 w.old.out.now w.old.at (name k) }
 {
-    if text::has_room(out, at, 7) {
-        return copy_name(out, at, k);
-    }
-    at
-}
-
-// The name of an operation, where there is room for it.
-fn copy_name(out: &mut [u8], at: usize, k: Kind) -> usize
-    requires { at + 7 ≤ length out.old }
-    ensures { (result ≡ at + length (name k)) × (out.new ≡ over out.old at (name k)) }
-{
-    match k {
-        Kind::Read => text::put(out, at, b"read"),
-        Kind::Write => text::put(out, at, b"write"),
-        Kind::Root => text::put(out, at, b"root"),
-        Kind::Asid => text::put(out, at, b"asid"),
-        Kind::Mode => text::put(out, at, b"mode"),
-        Kind::All => text::put(out, at, b"all"),
-        Kind::Addr => text::put(out, at, b"addr"),
-        Kind::Ctx => text::put(out, at, b"ctx"),
-        Kind::AddrCtx => text::put(out, at, b"addrctx"),
-        Kind::Fetch => text::put(out, at, b"fetch"),
-        Kind::Domain => text::put(out, at, b"domain"),
+    if w.has_room(7) {
+        w.put(text_of(k));
     }
 }
