@@ -30,7 +30,7 @@ pub fn name_of(s: &[u8]) -> Option<Kind>
 }
 
 // The name of an operation.
-fn text_of(k: Kind) -> &'static [u8]
+pub fn text_of(k: Kind) -> &'static [u8]
     ensures { result.now ≡ name k }
 {
     match k {

@@ -1,4 +1,5 @@
 -- Laws of the report, and its settings.
+pub mod Pieces
 pub mod LinesLaws
 pub mod Running
 pub mod ReportLaws

@@ -1,7 +1,8 @@
 -- Laws of the report around its lines: the list, the start, the header, and a call. Assumes nothing.
 use Prim.Native.Nat.{ℕ, ◌+◌, ◌≤◌, ◌<◌}
 use mathlib.Core.Path.{◌≡◌, refl, ap, ap₂, sym, ◌∙◌, subst, subst₂}
-use mathlib.Core.Bool.{Bool, true, false, cond}
+use mathlib.Core.Bool.{Bool, true, false, cond, true≢false}
+use mathlib.Core.Logic.{◌⊎◌, inl, inr}
 use mathlib.Core.List.{List, [], ◌∷◌, ◌++◌}
 use native.Mathlib.Omega.{arith}
 use lib.Dec.{leb}
@@ -104,26 +105,26 @@ noted_from m t x l u g q =
     subst₂ (λ (s : State) (v : List ℕ). Noted old_window s v) (λ i. record { memory = sym g.memory i; registers = sym g.registers i }) (sym g.track)
     (noted_start m t setting (ap (λ (a : Answer). is_refused (shown a)) (sym g.answer) ∙ q))
 
-pub done_kept : (a : Answer) (v : ℕ) → a ≡ Done v → is_refused (shown a) ≡ false
+-- an answer that is no refusal
+pub kept : (a : Answer) → ((v : ℕ) × (a ≡ Done v)) ⊎ ((f : Fault) × (a ≡ Faulted f)) → is_refused (shown a) ≡ false
 unfolding is_refused
-done_kept a v e = ap (λ (z : Answer). is_refused (shown z)) e
+kept a (inl p) = ap (λ (z : Answer). is_refused (shown z)) p.1
+kept a (inr p) = ap (λ (z : Answer). is_refused (shown z)) p.1
 
-pub faulted_kept : (a : Answer) (f : Fault) → a ≡ Faulted f → is_refused (shown a) ≡ false
+pub start_accepted : (a : Answer) (x : After) (l : List ℕ) → is_refused (shown a) ≡ false → after_start a x l ≡ replayed 2 x (read_list l)
 unfolding is_refused
-faulted_kept a f e = ap (λ (z : Answer). is_refused (shown z)) e
+start_accepted (Done v) x l h = refl
+start_accepted (Faulted f) x l h = refl
+start_accepted (Refused r) x l h = absurd (true≢false h)
 
 module _ (m t l : List ℕ) where
   pub body_refused : (n : Refusal) → (started m t setting).answer ≡ Refused n → body_of m t l ≡ ended (report_line 0 start_name (refused (refusal_number n))) (started m t setting)
   unfolding body_of
   body_refused n e = ap (λ (a : Answer). after_start a (started m t setting) l) e
 
-  pub body_done : (v : ℕ) → (started m t setting).answer ≡ Done v → body_of m t l ≡ replayed 2 (started m t setting) (read_list l)
+  pub body_carried : is_refused (shown (started m t setting).answer) ≡ false → body_of m t l ≡ replayed 2 (started m t setting) (read_list l)
   unfolding body_of
-  body_done v e = ap (λ (a : Answer). after_start a (started m t setting) l) e
-
-  pub body_faulted : (f : Fault) → (started m t setting).answer ≡ Faulted f → body_of m t l ≡ replayed 2 (started m t setting) (read_list l)
-  unfolding body_of
-  body_faulted f e = ap (λ (a : Answer). after_start a (started m t setting) l) e
+  body_carried = start_accepted (started m t setting).answer (started m t setting) l
 
 -- ── The header ──
 

@@ -5,6 +5,7 @@ use mathlib.Core.List.{List, [], ◌++◌, append_assoc, append-nil}
 use native.Mathlib.Omega.{arith}
 use native.Mathlib.Numerals.{add-one}
 use lib.ListN.{length, length-append}
+use Rattle.std.specs.Prelude.{Ok, Err}
 use Rattle.text.specs.Split.{past}
 use Rattle.text.specs.Put.{over, wrote, place_after}
 use Rattle.text.proofs.PutLaws.{over_over, over_none, length_over, wrote_fits}
@@ -23,7 +24,6 @@ use Rattle.runs.specs.Step.{run_stepped}
 use Rattle.runs.proofs.Noted.{noted_next}
 use Rattle.runs.proofs.SameLaws.{step_same}
 use Rattle.names.specs.Names.{newline, name}
-use Rattle.listing.specs.declared.Line.TheVariants.{Op, Refused}
 use Rattle.listing.specs.declared.Reason.{Reason}
 use Rattle.listing.specs.Line.{line_of}
 use Rattle.listing.specs.Whole.{list_number, read_lines}
@@ -93,7 +93,7 @@ module _ {whole : Left} {d : List ℕ} {at : ℕ} {r : Registers} {m t out left 
       ∙ ap (λ (q : List ℕ). run_stepped o r q w.x.track) w.is_memory
       ∙ ap (λ (q : List ℕ). run_stepped o r m q) w.is_track
 
-  pub running_more : (o : Operation) (y : Returned) (m' t' out' : List ℕ) (p : ℕ) → 0 < length left → line_of left ≡ Op o → Gives (run_stepped o r m t) y m' t' →
+  pub running_more : (o : Operation) (y : Returned) (m' t' out' : List ℕ) (p : ℕ) → 0 < length left → line_of left ≡ Ok o → Gives (run_stepped o r m t) y m' t' →
       (p ≡ place_after line_room out place (report_line line (name o.kind) (shown y.answer))) × (out' ≡ wrote line_room out place (report_line line (name o.kind) (shown y.answer))) →
       Running whole d at y.registers m' t' out' (past newline left) p (line + 1)
   running_more o y m' t' out' p h e g q = go w.turns refl
@@ -157,7 +157,7 @@ module _ {whole : Left} {d : List ℕ} {at : ℕ} {r : Registers} {m t out left 
         bytes = f.1 ∙ sym (ap (λ (k : Left). over d at k.text) a);
       }
 
-  pub running_refused : (x : Reason) (out' : List ℕ) (p : ℕ) → 0 < length left → line_of left ≡ Refused x →
+  pub running_refused : (x : Reason) (out' : List ℕ) (p : ℕ) → 0 < length left → line_of left ≡ Err x →
       (p ≡ place_after line_room out place (report_line line no_name (refused (list_number x)))) × (out' ≡ wrote line_room out place (report_line line no_name (refused (list_number x)))) →
       Ran whole d at p m t out'
   running_refused x out' p h e q = running_stop (report_line line no_name (refused (list_number x))) out' p (omega (arith, refusal_most line (list_number x))) q (go w.turns refl)

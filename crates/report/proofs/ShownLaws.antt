@@ -24,8 +24,7 @@ use Rattle.model.specs.step.Checks.{start_checks, first_failing}
 use Rattle.model.specs.step.Machine.{After, started, started_by}
 use Rattle.model.specs.Invisible.{Accepted, checker, plain_run_of, chip_run_of}
 use Rattle.model.proofs.ThirdDemand.{invisible}
-use Rattle.listing.specs.declared.Line.{Line}
-use Rattle.listing.specs.declared.Line.TheVariants.{Op, Refused as Line-as-Refused}
+use Rattle.std.specs.declared.result.Result as Line
 use Rattle.listing.specs.Line.{line_of}
 use Rattle.listing.specs.Whole.{list_number, too_long, has_names, Reading, read_lines, read_list, stopped_at}
 use Rattle.listing.specs.declared.Reason.{Reason}
@@ -40,7 +39,7 @@ use Rattle.report.specs.declared.NoReport.TheVariants.{ShortBuffer, WrongTrack, 
 use Rattle.report.specs.Report.{Told, setting, answer_lines, answer_text, end_text, Left, replayed, after_start, body_of, memory_length, track_length, passes, looks_at_list, report_of, report_limit, unchanged, reported, called}
 use Rattle.report.specs.Shown.{session, lines, unless_refused, plain_answer, chip_answer, Honest}
 use Rattle.report.proofs.LinesLaws.{line_for, ended, lines_op, lines_refused, lines_end, stopped_at_lem}
-use Rattle.report.proofs.ReportLaws.{read_long, read_names, read_none, not_long, memory_fits}
+use Rattle.report.proofs.ReportLaws.{read_long, read_names, read_none, not_long, memory_fits, start_accepted}
 
 -- ── The lines ──
 
@@ -67,12 +66,6 @@ shows_chip m t l a n first script =
     ∙ chip_firsts (chip_run_of checker (session m t l) (suc n) first script)
 
 -- ── The two ways of a start ──
-
-start_accepted : (a : Answer) (x : After) (l : List ℕ) → is_refused (shown a) ≡ false → after_start a x l ≡ replayed 2 x (read_list l)
-unfolding is_refused
-start_accepted (Done v) x l h = refl
-start_accepted (Faulted f) x l h = refl
-start_accepted (Refused r) x l h = absurd (true≢false h)
 
 start_refused : (a : Answer) (x : After) (l : List ℕ) → is_refused (shown a) ≡ true → after_start a x l ≡ ended (report_line 0 start_name (shown a)) x
 unfolding is_refused
@@ -114,14 +107,14 @@ end_fits : (turns n : ℕ) (x : After) (l : List ℕ) → length l ≤ 0 → Fit
 end_fits turns n x l h = let f = ap (λ (k : Left). length k.text) (lines_end turns n x l h) in omega (arith, f)
 
 line_fits : (turns n : ℕ) (x : After) (l : List ℕ) → length l ≤ suc turns → 0 < length l →
-    ((o : Operation) → length (past newline l) ≤ turns → Fits turns (suc n) (next checker o x) (past newline l)) → (i : Line) → line_of l ≡ i → Fits (suc turns) n x l
-line_fits turns n x l h pos ih (Op o) e =
+    ((o : Operation) → length (past newline l) ≤ turns → Fits turns (suc n) (next checker o x) (past newline l)) → (i : Line.Result Operation Reason) → line_of l ≡ i → Fits (suc turns) n x l
+line_fits turns n x l h pos ih (Ok o) e =
     let rest : Left = replayed (suc n) (next checker o x) (read_lines turns (suc n) (past newline l)) in
     let less = line_rest o l e in
     let f : length (replayed n x (read_lines (suc turns) n l)).text ≡ length (line_for n o x ++ rest.text) =
     ap (λ (r : Left). length r.text) (lines_op turns n x l o pos e) in
     omega (arith, f, length-append (line_for n o x) rest.text, line_most n o.kind (shown (next checker o x).answer), ih o (omega (arith, h, less)), less)
-line_fits turns n x l h pos ih (Line-as-Refused r) e =
+line_fits turns n x l h pos ih (Err r) e =
     let f = ap (λ (k : Left). length k.text) (lines_refused turns n x l r pos e) in
     omega (arith, f, refusal_most n (list_number r))
 

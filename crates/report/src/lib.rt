@@ -9,8 +9,9 @@ ghost use Rattle.runs.specs.Noted.{Noted};
 ghost use Rattle.listing.specs.Whole.{read_list, read_lines};
 ghost use Rattle.report.specs.Report.{memory_length, looks_at_list, replayed, body_of, report_of, Ran, called, GivesReport};
 
-use listing::{Line, Reason};
+use listing::Reason;
 use model::{Answer, Registers, Setting};
+use text::Writer;
 
 // Why a call gives no report.
 #[derive(Clone, Copy)]
@@ -36,80 +37,64 @@ pub fn looks_at_list(n: usize) -> bool
 }
 
 // Carries out the lines of a list, the first of which is line 2, on a track that is noted, and puts their lines into the report.
-fn lines(r: Registers, m: &mut [u8], t: &mut [u32], list: &[u8], out: &mut [u8], at: usize) -> usize
+fn lines(r: Registers, m: &mut [u8], t: &mut [u32], list: &[u8], w: &mut Writer)
     requires size { length list.now ≤ 65536 }
-    requires room { at + (4 * length list.now + 64) ≤ length out.old }
+    requires room { w.old.at + (4 * length list.now + 64) ≤ length w.old.out.now }
     requires noted { Noted old_window (record { memory = m.old; registers = r }) t.old }
-    ensures { Ran (replayed 2 (record { answer = Done 0; registers = r; memory = m.old; track = t.old }) (read_lines (length list.now) 2 list.now)) out.old at result m.new t.new out.new }
+    ensures same_buffer { w.new.out.ghost_name ≡ w.old.out.ghost_name }
+    ensures ran { Ran (replayed 2 (record { answer = Done 0; registers = r; memory = m.old; track = t.old }) (read_lines (length list.now) 2 list.now)) w.old.out.now w.old.at w.new.at m.new t.new w.new.out.now }
 {
     let mut regs = r;
-    let mut left = list;
-    let mut place = at;
-    let mut line: u32 = 2;
-    while 0 < left.len() {
-        match listing::read_line(left) {
-            Line::Op(o) => {
+    for (line, text) in (2..).zip(list.split_inclusive(|x| *x == b'\n')) {
+        match listing::read_line(text) {
+            Ok(o) => {
                 let y = run_step::step(o, regs, m, t);
                 regs = y.registers;
-                let answer = y.answer;
-                let kind = o.kind;
-                place = report_line::put_answer(out, place, line, kind, answer);
+                report_line::put_answer(w, line, o.kind, y.answer);
             }
-            Line::Refused(x) => {
-                return report_line::put_refusal(out, place, line, listing::list_number(x));
-            }
+            Err(x) => return report_line::put_refusal(w, line, listing::list_number(x)),
         }
-        let next = listing::rest(left);
-        left = next;
-        line += 1;
     }
-    place
 }
 
 // The list after an accepted start: too long, no names line, or its lines.
-fn read_list(
-    r: Registers,
-    m: &mut [u8],
-    t: &mut [u32],
-    list: &[u8],
-    out: &mut [u8],
-    at: usize,
-) -> usize
-    requires room { at + 262208 ≤ length out.old }
+fn read_list(r: Registers, m: &mut [u8], t: &mut [u32], list: &[u8], w: &mut Writer)
+    requires room { w.old.at + 262208 ≤ length w.old.out.now }
     requires noted { Noted old_window (record { memory = m.old; registers = r }) t.old }
-    ensures { Ran (replayed 2 (record { answer = Done 0; registers = r; memory = m.old; track = t.old }) (read_list list.now)) out.old at result m.new t.new out.new }
+    ensures same_buffer { w.new.out.ghost_name ≡ w.old.out.ghost_name }
+    ensures ran { Ran (replayed 2 (record { answer = Done 0; registers = r; memory = m.old; track = t.old }) (read_list list.now)) w.old.out.now w.old.at w.new.at m.new t.new w.new.out.now }
 {
     if listing::too_long(list) {
-        return report_line::put_refusal(out, at, 1, listing::list_number(Reason::TooLong));
+        report_line::put_refusal(w, 1, listing::list_number(Reason::TooLong));
+    } else if listing::has_names(list) {
+        lines(r, m, t, listing::rest(list), w);
+    } else {
+        report_line::put_refusal(w, 1, listing::list_number(Reason::Names));
     }
-    if listing::has_names(list) {
-        return lines(r, m, t, listing::rest(list), out, at);
-    }
-    report_line::put_refusal(out, at, 1, listing::list_number(Reason::Names))
 }
 
 // The report behind its header, from the start on.
-fn body(m: &mut [u8], t: &mut [u32], list: &[u8], out: &mut [u8], at: usize) -> usize
-    requires { at + 262208 ≤ length out.old }
-    ensures { Ran (body_of m.old t.old list.now) out.old at result m.new t.new out.new }
+fn body(m: &mut [u8], t: &mut [u32], list: &[u8], w: &mut Writer)
+    requires { w.old.at + 262208 ≤ length w.old.out.now }
+    ensures same_buffer { w.new.out.ghost_name ≡ w.old.out.ghost_name }
+    ensures ran { Ran (body_of m.old t.old list.now) w.old.out.now w.old.at w.new.at m.new t.new w.new.out.now }
 {
     let begun = machine::start(m, t, Setting { root: 0 });
-    let r = begun.registers;
-    let answer = begun.answer;
-    match answer {
-        Answer::Refused(n) => report_line::put_start(out, at, checks::refusal_number(n)),
-        Answer::Done(_) => read_list(r, m, t, list, out, at),
-        Answer::Faulted(_) => read_list(r, m, t, list, out, at),
+    match begun.answer {
+        Answer::Refused(n) => report_line::put_start(w, checks::refusal_number(n)),
+        Answer::Done(_) | Answer::Faulted(_) => read_list(begun.registers, m, t, list, w),
     }
 }
 
-// The whole report: its header, then the rest.
+// The whole report, its header and then the rest, and how long it is.
 fn whole(m: &mut [u8], t: &mut [u32], list: &[u8], out: &mut [u8]) -> usize
     requires { 262272 ≤ length out.old }
     ensures { Ran (report_of m.old t.old list.now) out.old 0 result m.new t.new out.new }
 {
-    let at = report_line::put_header(out, 0);
-    body(m, t, list, out, at)
+    let mut w = Writer::new(out);
+    report_line::put_header(&mut w);
+    body(m, t, list, &mut w);
+    w.at
 }
 
 // Writes the report of an image buffer of which n bytes were read and a list buffer of which k were, and answers how long it is. `image` and `track` hold

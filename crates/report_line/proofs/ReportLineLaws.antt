@@ -28,12 +28,3 @@ refusal_most n r = simp length-append (omega (arith, hex_length n, hex_length r)
 pub start_most : (r : ℕ) → length (report_line 0 start_name (refused r)) ≤ line_room
 unfolding report_line
 start_most r = simp length-append (omega (arith, hex_length 0, hex_length r))
-
--- the line of a refused start begins with `0,start,refused,`
-zero_text_lem : hex_of 0 ≡ 48 ∷ []
-unfolding hex_of spell glyph
-zero_text_lem = refl
-
-pub start_text : (n : ℕ) → ((48 ∷ 44 ∷ 115 ∷ 116 ∷ 97 ∷ 114 ∷ 116 ∷ 44 ∷ 114 ∷ 101 ∷ 102 ∷ 117 ∷ 115 ∷ 101 ∷ 100 ∷ 44 ∷ []) ++ hex_of n) ++ (newline ∷ []) ≡ report_line 0 start_name (refused n)
-unfolding report_line
-start_text n = rw zero_text_lem (simp append_assoc)

@@ -29,8 +29,11 @@ value (fault n) = n
 value (refused n) = n
 
 -- a line of the report: line number, operation, answer, value
+abbrev pub line_text : ℕ → List ℕ → List ℕ → ℕ → List ℕ
+line_text n op w v = hex_of n ++ (comma ∷ (op ++ (comma ∷ (w ++ (comma ∷ (hex_of v ++ (newline ∷ [])))))))
+
 unfoldable pub report_line : ℕ → List ℕ → Result → List ℕ
-report_line n op r = hex_of n ++ (comma ∷ (op ++ (comma ∷ (word r ++ (comma ∷ (hex_of (value r) ++ (newline ∷ [])))))))
+report_line n op r = line_text n op (word r) (value r)
 
 -- how many bytes a line of the report has at most, where its operation has at most 7
 abbrev pub line_room : ℕ

@@ -1,30 +1,32 @@
 // The lines of a report, put into a lent buffer where there is room for the longest.
 #![tactic(auto)]
 
-ghost use Rattle.std.specs.Prelude.{◌≡◌, ◌+◌, ◌≤◌, length};
-ghost use Rattle.text.specs.Put.{over, wrote, place_after};
+ghost use Rattle.std.specs.Prelude.{◌≡◌, ◌≤◌, length};
+ghost use Rattle.text.specs.Put.{wrote, place_after};
 ghost use Rattle.model.specs.Numbers.{refused, shown};
 ghost use Rattle.names.specs.Names.{name};
-ghost use Rattle.report_line.specs.Text.{header, no_name, start_name, word, value, report_line, line_room};
+ghost use Rattle.report_line.specs.Text.{header, no_name, start_name, word, value, line_text, report_line, line_room};
 
 use model::{Answer, Kind};
+use text::Writer;
 
 // Puts the names of a report.
-pub fn put_header(out: &mut [u8], at: usize) -> usize
-    ensures { (result ≡ place_after (length header) out.old at header) × (out.new ≡ wrote (length header) out.old at header) }
+pub fn put_header(w: &mut Writer)
+    ensures same_buffer { w.new.out.ghost_name ≡ w.old.out.ghost_name }
+    ensures place { w.new.at ≡ place_after (length header) w.old.out.now w.old.at header }
+    ensures holds { w.new.out.now ≡ wrote (length header) w.old.out.now w.old.at header }
 {
-    text::put(out, at, b"line,op,answer,value\n")
+    w.put(b"line,op,answer,value\n");
 }
 
 // The word for an answer.
-fn put_word(out: &mut [u8], at: usize, a: Answer) -> usize
-    requires { at + 7 ≤ length out.old }
-    ensures { (result ≡ at + length (word (shown a))) × (out.new ≡ over out.old at (word (shown a))) }
+fn word(a: Answer) -> &'static [u8]
+    ensures { result.now ≡ word (shown a) }
 {
     match a {
-        Answer::Done(_) => text::put(out, at, b"ok"),
-        Answer::Faulted(_) => text::put(out, at, b"fault"),
-        Answer::Refused(_) => text::put(out, at, b"refused"),
+        Answer::Done(_) => b"ok",
+        Answer::Faulted(_) => b"fault",
+        Answer::Refused(_) => b"refused",
     }
 }
 
@@ -39,68 +41,52 @@ pub fn value(a: Answer) -> u32
     }
 }
 
-// The line of an operation, where there is room for it.
-fn copy_answer(out: &mut [u8], at: usize, line: u32, k: Kind, a: Answer) -> usize
-    requires { at + 34 ≤ length out.old }
-    ensures { (result ≡ at + length (report_line line (name k) (shown a))) × (out.new ≡ over out.old at (report_line line (name k) (shown a))) }
+// Puts a line of these parts, where there is room for the longest.
+#[tactic(auto, unfolding(text::specs::Put::wrote, text::specs::Put::place_after))]
+fn put_line(w: &mut Writer, line: u32, op: &[u8], word: &[u8], value: u32)
+    requires op { length op.now ≤ 7 }
+    requires word { length word.now ≤ 7 }
+    ensures same_buffer { w.new.out.ghost_name ≡ w.old.out.ghost_name }
+    ensures put { (w.new.at ≡ place_after line_room w.old.out.now w.old.at (line_text line op.now word.now value)) × (w.new.out.now ≡ wrote line_room w.old.out.now w.old.at (line_text line op.now word.now value)) }
 {
-    let p1 = text::put_hex(out, at, line);
-    let p2 = text::put(out, p1, b",");
-    let p3 = names::put_name(out, p2, k);
-    let p4 = text::put(out, p3, b",");
-    let p5 = put_word(out, p4, a);
-    let p6 = text::put(out, p5, b",");
-    let p7 = text::put_hex(out, p6, value(a));
-    text::put(out, p7, b"\n")
+    if w.has_room(34) { // line_room
+        w.put_hex(line);
+        w.put(b",");
+        w.put(op);
+        w.put(b",");
+        w.put(word);
+        w.put(b",");
+        w.put_hex(value);
+        w.put(b"\n");
+    }
 }
 
 // Puts the line of an operation.
-pub fn put_answer(out: &mut [u8], at: usize, line: u32, k: Kind, a: Answer) -> usize
-    ensures { (result ≡ place_after line_room out.old at (report_line line (name k) (shown a))) × (out.new ≡ wrote line_room out.old at (report_line line (name k) (shown a))) }
+#[tactic(auto, unfolding(crate::specs::Text::report_line))]
+pub fn put_answer(w: &mut Writer, line: u32, k: Kind, a: Answer)
+    ensures same_buffer { w.new.out.ghost_name ≡ w.old.out.ghost_name }
+    ensures place { w.new.at ≡ place_after line_room w.old.out.now w.old.at (report_line line (name k) (shown a)) }
+    ensures holds { w.new.out.now ≡ wrote line_room w.old.out.now w.old.at (report_line line (name k) (shown a)) }
 {
-    if text::has_room(out, at, 34) { // line_room
-        return copy_answer(out, at, line, k, a);
-    }
-    at
-}
-
-// The line of a list refusal, where there is room for it.
-fn copy_refusal(out: &mut [u8], at: usize, line: u32, n: u32) -> usize
-    requires { at + 34 ≤ length out.old }
-    ensures { (result ≡ at + length (report_line line no_name (refused n))) × (out.new ≡ over out.old at (report_line line no_name (refused n))) }
-{
-    let p1 = text::put_hex(out, at, line);
-    let p2 = text::put(out, p1, b",-,refused,");
-    let p3 = text::put_hex(out, p2, n);
-    text::put(out, p3, b"\n")
+    put_line(w, line, names::text_of(k), word(a), value(a));
 }
 
 // Puts the line of a list refusal.
-pub fn put_refusal(out: &mut [u8], at: usize, line: u32, n: u32) -> usize
-    ensures { (result ≡ place_after line_room out.old at (report_line line no_name (refused n))) × (out.new ≡ wrote line_room out.old at (report_line line no_name (refused n))) }
+#[tactic(auto, unfolding(crate::specs::Text::report_line))]
+pub fn put_refusal(w: &mut Writer, line: u32, n: u32)
+    ensures same_buffer { w.new.out.ghost_name ≡ w.old.out.ghost_name }
+    ensures place { w.new.at ≡ place_after line_room w.old.out.now w.old.at (report_line line no_name (refused n)) }
+    ensures holds { w.new.out.now ≡ wrote line_room w.old.out.now w.old.at (report_line line no_name (refused n)) }
 {
-    if text::has_room(out, at, 34) { // line_room
-        return copy_refusal(out, at, line, n);
-    }
-    at
-}
-
-// The line of a refused start, where there is room for it.
-fn copy_start(out: &mut [u8], at: usize, n: u32) -> usize
-    requires { at + 34 ≤ length out.old }
-    ensures { (result ≡ at + length (report_line 0 start_name (refused n))) × (out.new ≡ over out.old at (report_line 0 start_name (refused n))) }
-{
-    let p1 = text::put(out, at, b"0,start,refused,");
-    let p2 = text::put_hex(out, p1, n);
-    text::put(out, p2, b"\n")
+    put_line(w, line, b"-", b"refused", n);
 }
 
 // Puts the line of a refused start.
-pub fn put_start(out: &mut [u8], at: usize, n: u32) -> usize
-    ensures { (result ≡ place_after line_room out.old at (report_line 0 start_name (refused n))) × (out.new ≡ wrote line_room out.old at (report_line 0 start_name (refused n))) }
+#[tactic(auto, unfolding(crate::specs::Text::report_line))]
+pub fn put_start(w: &mut Writer, n: u32)
+    ensures same_buffer { w.new.out.ghost_name ≡ w.old.out.ghost_name }
+    ensures place { w.new.at ≡ place_after line_room w.old.out.now w.old.at (report_line 0 start_name (refused n)) }
+    ensures holds { w.new.out.now ≡ wrote line_room w.old.out.now w.old.at (report_line 0 start_name (refused n)) }
 {
-    if text::has_room(out, at, 34) { // line_room
-        return copy_start(out, at, n);
-    }
-    at
+    put_line(w, 0, b"start", b"refused", n);
 }
