@@ -1,5 +1,5 @@
 -- A list cut behind its first newline, as `split_inclusive` cuts it. Assumes nothing.
-use Prim.Native.Nat.{ℕ, zero, suc, ◌+◌, ◌≤◌, ◌<◌}
+use Prim.Native.Nat.{ℕ, zero, suc, ◌+◌, ◌≤◌}
 use mathlib.Core.Path.{◌≡◌, refl, ap, ap₂, sym, ◌∙◌}
 use mathlib.Core.Bool.{Bool, true, false, cond, true≢false}
 use mathlib.Core.List.{List, [], ◌∷◌, ◌++◌, append_assoc, append-nil}
@@ -10,7 +10,7 @@ use lib.Seq.{take_at}
 use Rattle.std.proofs.Common.{nat_eq, min, drop_at, Err}
 use Rattle.std.specs.List.{IsFirstMatchOrLen}
 use Rattle.text.specs.Split.{has, until, past}
-use Rattle.text.proofs.SplitLaws.{has_place, found_has, join, join_parts, past_none}
+use Rattle.text.proofs.SplitLaws.{join, join_parts, past_none}
 use Rattle.names.specs.Names.{newline}
 use Rattle.listing.specs.declared.Reason.TheVariants.{Shape}
 use Rattle.listing.specs.Line.{fields_of, line_of}

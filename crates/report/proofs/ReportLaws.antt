@@ -1,13 +1,13 @@
 -- Laws of the report around its lines: the list, the start, the header, and a call. Assumes nothing.
-use Prim.Native.Nat.{ℕ, ◌+◌, ◌≤◌, ◌<◌}
+use Prim.Native.Nat.{ℕ, ◌+◌, ◌≤◌}
 use mathlib.Core.Path.{◌≡◌, refl, ap, ap₂, sym, ◌∙◌, subst, subst₂}
 use mathlib.Core.Bool.{Bool, true, false, cond, true≢false}
 use mathlib.Core.Logic.{◌⊎◌, inl, inr}
 use mathlib.Core.List.{List, [], ◌∷◌, ◌++◌}
 use native.Mathlib.Omega.{arith}
 use lib.Dec.{leb}
-use lib.ListN.{length, length-append, take, drop}
-use borrow.Author.Tests.{lt-ltb, le-ltb, eq-eqb, ne_eqb, ltb-false}
+use lib.ListN.{length, length-append, drop}
+use borrow.Author.Tests.{ltb-false}
 use Rattle.text.specs.Split.{past}
 use Rattle.text.specs.Put.{over, wrote, place_after}
 use Rattle.text.proofs.PutLaws.{over_over, wrote_fits}
@@ -33,10 +33,8 @@ use Rattle.listing.specs.declared.Reason.{Reason}
 use Rattle.listing.specs.declared.Reason.TheVariants.{TooLong, Names}
 use Rattle.listing.specs.Whole.{list_limit, list_number, too_long, has_names, Ending, Reading, stopped_at, read_rest, read_list}
 use Rattle.report_line.specs.Text.{header, no_name, start_name, report_line, line_room}
-use Rattle.std.specs.declared.result.Result.TheVariants.{Ok, Err}
-use Rattle.report.specs.declared.NoReport.{NoReport}
-use Rattle.report.specs.declared.NoReport.TheVariants.{ShortBuffer, WrongTrack, WrongCounts}
-use Rattle.report.specs.Report.{setting, Left, replayed, after_start, body_of, headed, report_of, image_limit, memory_length, track_length, passes, looks_at_list, report_limit, Ran, ReportCall, unchanged, reported, called, GivesReport}
+use Rattle.std.specs.declared.result.Result.TheVariants.{Ok}
+use Rattle.report.specs.Report.{setting, Left, replayed, after_start, body_of, headed, image_limit, memory_length, track_length, passes, looks_at_list, Ran, ReportCall, reported, GivesReport}
 use Rattle.report.proofs.LinesLaws.{ended, stopped_at_lem}
 
 -- ── The list ──

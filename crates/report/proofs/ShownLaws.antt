@@ -1,15 +1,12 @@
 -- The lines of the report show what the plain machine and every chip answer, and the report fits the named size. Assumes nothing.
 use Prim.Native.Nat.{ℕ, zero, suc, ◌+◌, ◌*◌, ◌≤◌, ◌<◌}
 use mathlib.Core.Path.{◌≡◌, refl, ap, ap₂, sym, ◌∙◌}
-use mathlib.Core.Bool.{Bool, true, false, cond, not, true≢false}
+use mathlib.Core.Bool.{Bool, true, false, not, true≢false}
 use mathlib.Core.List.{List, [], ◌∷◌, ◌++◌, map}
-use mathlib.Core.Logic.{◌⊎◌, inl, inr}
 use mathlib.Core.Option.{Option}
 use native.Mathlib.Omega.{arith}
-use lib.Dec.{ltb, eqb}
 use lib.ListN.{length, length-append, take}
 use lib.Seq.{length-take-le}
-use borrow.Author.Tests.{ltb-false}
 use Rattle.text.specs.Split.{past}
 use Rattle.text.proofs.SplitLaws.{past_length}
 use Rattle.model.specs.Numbers.{Result, refusal_number, shown}
@@ -34,9 +31,7 @@ use Rattle.names.specs.Names.{newline}
 use Rattle.report_line.specs.Text.{header, start_name, report_line}
 use Rattle.report_line.proofs.ReportLineLaws.{line_most, refusal_most, start_most}
 use Rattle.std.specs.declared.result.Result.TheVariants.{Ok, Err}
-use Rattle.report.specs.declared.NoReport.{NoReport}
-use Rattle.report.specs.declared.NoReport.TheVariants.{ShortBuffer, WrongTrack, WrongCounts}
-use Rattle.report.specs.Report.{Told, setting, answer_lines, answer_text, end_text, Left, replayed, after_start, body_of, memory_length, track_length, passes, looks_at_list, report_of, report_limit, unchanged, reported, called}
+use Rattle.report.specs.Report.{setting, answer_lines, answer_text, end_text, Left, replayed, after_start, body_of, memory_length, track_length, passes, looks_at_list, report_of, report_limit}
 use Rattle.report.specs.Shown.{session, lines, unless_refused, plain_answer, chip_answer, Honest}
 use Rattle.report.proofs.LinesLaws.{line_for, ended, lines_op, lines_refused, lines_end, stopped_at_lem}
 use Rattle.report.proofs.ReportLaws.{read_long, read_names, read_none, not_long, memory_fits, start_accepted}

@@ -1,14 +1,11 @@
 -- How long a line of the report is at most. Assumes nothing.
 use Prim.Native.Nat.{ℕ, ◌≤◌}
-use mathlib.Core.Path.{◌≡◌, refl}
-use mathlib.Core.List.{[], ◌∷◌, ◌++◌, append_assoc}
 use native.Mathlib.Omega.{arith}
 use lib.ListN.{length, length-append}
-use Rattle.text.specs.Hex.{glyph, spell, hex_of}
 use Rattle.text.proofs.HexLaws.{hex_length}
 use Rattle.model.specs.Numbers.{Result, ok, fault, refused}
 use Rattle.model.specs.declared.Kind.{Kind}
-use Rattle.names.specs.Names.{newline, name}
+use Rattle.names.specs.Names.{name}
 use Rattle.names.proofs.NameLaws.{name_most}
 use Rattle.report_line.specs.Text.{no_name, start_name, word, value, report_line, line_room}
 

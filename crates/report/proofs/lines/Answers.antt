@@ -1,4 +1,4 @@
-use Rattle.std.proofs.Common.{rules, of_calls, ◌≡◌, ℕ, sym, ◌∙◌, arith, nat_eq, inl, inr, refl}
+use Rattle.std.proofs.Common.{rules, of_calls, sym, ◌∙◌, arith, nat_eq, inl, inr, refl}
 use Rattle.std.proofs.lemmas.Fn.{always_returns_same}
 use Rattle.model.specs.declared.Answer.TheVariants.{Done}
 use Rattle.model.specs.step.Machine.{After}
