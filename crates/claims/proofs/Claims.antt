@@ -7,6 +7,7 @@ use mathlib.Core.Logic.{◌⊎◌, inl, inr, ◌↔◌}
 use mathlib.Core.Bool.{Bool, true, false, cond, not, ◌||◌}
 use mathlib.Core.List.{List, [], ◌∷◌, ◌++◌, map}
 use mathlib.Core.Option.{Option, none, some}
+use Rattle.std.specs.declared.result.Result.TheVariants.{Ok}
 use native.Mathlib.Nat.{mul_comm}
 use lib.Dec.{eqb}
 use lib.ListN.{length, get_or, replicate, take}
@@ -68,10 +69,8 @@ use Rattle.lines.specs.Ways.{gives, refusal, length_fits, lines_of, image_of, ou
 use Rattle.lines.specs.Refusals.{conditions_for}
 use Rattle.lines.proofs.RefusalLaws.{lines_refused}
 use Rattle.lines.proofs.Theorem.{same_bytes}
-use Rattle.line_writer.specs.declared.Told.TheVariants.{Text}
 use Rattle.line_writer.specs.Call.{room_for, called as written}
 use Rattle.line_writer.proofs.Front.{written as lines-written, file_written}
-use Rattle.line_reader.specs.declared.Told.TheVariants.{Output}
 use Rattle.line_reader.specs.Reading.{State as Reading, begun, is_decided, feed, ending, finished as readingEnds, finished_file}
 use Rattle.line_reader.proofs.Streams.{streamed, file_streamed}
 
@@ -548,14 +547,14 @@ L7-lines-are-read = lines_refused.accepted
 pub L7-the-lines-of-a-file : (image : List ℕ) (n : ℕ) (d : List ℕ) → n ≤ length image → 147474 ≤ length d →
     let text = output (lines_of 32768 (take n image)) in
     let call = written 32768 image n d in
-    (call.told ≡ Text (length text)) × (take (length text) call.out ≡ text)
+    (call.told ≡ Ok (length text)) × (take (length text) call.out ≡ text)
 L7-the-lines-of-a-file = file_written.front
 
 -- The same for every limit, in a buffer with as much room as the image's length asks for.
 pub L7-the-lines-of-an-image : (limit : ℕ) (image : List ℕ) (n : ℕ) (d : List ℕ) → n ≤ length image → room_for limit n ≤ length d →
     let text = output (lines_of limit (take n image)) in
     let call = written limit image n d in
-    (call.told ≡ Text (length text)) × (take (length text) call.out ≡ text)
+    (call.told ≡ Ok (length text)) × (take (length text) call.out ≡ text)
 L7-the-lines-of-an-image limit image n d inside room =
     let told = lines-written.enough limit image n d inside room in
     (told, lines-written.front limit image n d (length (output (lines_of limit (take n image)))) told)
@@ -576,14 +575,14 @@ pub L7-the-image-of-lines : (d : List ℕ) (limit : ℕ) (l : List ℕ) → 17 �
     let bytes = output (image_of limit l) in
     let read = feed l (begun d limit) in
     let end = readingEnds read.reader read.image in
-    (end.told ≡ Output (length bytes)) × (take (length bytes) end.image ≡ bytes)
+    (end.told ≡ Ok (length bytes)) × (take (length bytes) end.image ≡ bytes)
 L7-the-image-of-lines = streamed.front
 
 pub L7-the-image-of-a-file : (d l : List ℕ) → 17 ≤ length d →
     let bytes = output (image_of 32768 l) in
     let read = feed l (begun d 32768) in
     let end = finished_file read.reader read.image in
-    (end.told ≡ Output (length bytes)) × (take (length bytes) end.image ≡ bytes)
+    (end.told ≡ Ok (length bytes)) × (take (length bytes) end.image ≡ bytes)
 L7-the-image-of-a-file = file_streamed.front
 
 -- ── L8: root changes only under context 0 ──

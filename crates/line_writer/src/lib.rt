@@ -104,7 +104,7 @@ fn room_for(limit: usize, n: usize) -> usize
 }
 
 // Writes the lines of an image buffer of which n bytes were read, or the refusal, and tells how long that is. An image that has more than `limit`
-// is refused.
+// is refused. n stands beside the buffer because a count that the buffer does not have is a case of its own (`called`).
 #[tactic(auto, unfolding(crate::specs::Call::called), using(text::proofs::PutLaws::room_left))]
 pub fn write_lines(limit: usize, image: &[u8], n: usize, out: &mut [u8]) -> Result<usize, NoLines>
     ensures told { result ≡ (called limit image.now n out.old).told }

@@ -40,10 +40,6 @@ fn main(rt: HostRuntime) {
     };
     match read_lines(&mut rt.stdin(), &mut reading) {
         Ok(()) => print_image(&rt, reading.reader, reading.image),
-        Err(error) => output::fail(
-            &rt,
-            "to_image: the lines were not read to their end",
-            error,
-        ),
+        Err(error) => output::fail(&rt, "to_image: the lines were not read to their end", error),
     }
 }
