@@ -59,6 +59,7 @@ pub fn small_entry(w: u32, domain: u32) -> Entry
 }
 
 // What a level-one word says of a page.
+#[tactic(auto, unfolding(model::specs::step::Walk::first_of))]
 pub fn first_of(w: u32, page: usize) -> FirstOutcome
     ensures { Tells first_fault (first_of w page) result }
 {
@@ -74,6 +75,7 @@ pub fn first_of(w: u32, page: usize) -> FirstOutcome
 }
 
 // What a level-two word says of a page, in a table of this domain.
+#[tactic(auto, unfolding(model::specs::step::Walk::second_of))]
 pub fn second_of(w: u32, page: usize, domain: u32) -> Outcome
     ensures { Tells outcome_number (second_of w page domain) result }
 {

@@ -61,36 +61,36 @@ pub struct Entry {
     pub domain: u32,
 }
 
-// Why an operation carried out gave no value.
+// Why an operation carried out gave no value, with its short-descriptor status code.
 #[derive(Clone, Copy)]
 pub enum Fault {
-    Alignment,
-    FirstUnmapped,
-    SecondUnmapped,
-    SectionDomain,
-    PageDomain,
-    SectionPermission,
-    PagePermission,
-    FirstOutside,
-    SecondOutside,
-    AccessOutside,
+    Alignment = 1,
+    FirstUnmapped = 5,
+    SecondUnmapped = 7,
+    SectionDomain = 9,
+    PageDomain = 0xb,
+    SectionPermission = 0xd,
+    PagePermission = 0xf,
+    FirstOutside = 0xc,
+    SecondOutside = 0xe,
+    AccessOutside = 8,
 }
 
-// Why an operation or a start was turned back.
+// Why an operation or a start was turned back, with its number in the rules.
 #[derive(Clone, Copy)]
 pub enum Refusal {
-    WrongSize,
-    WrongAddress,
-    WrongValue,
-    WrongRoot,
-    WrongContext,
-    WrongMode,
-    WrongLengths,
-    WrongRegisters,
-    UserMode,
-    StalePage,
-    WrongDomains,
-    NotContext0,
+    WrongSize = 7,
+    WrongAddress = 8,
+    WrongValue = 9,
+    WrongRoot = 10,
+    WrongContext = 11,
+    WrongMode = 12,
+    WrongLengths = 13,
+    WrongRegisters = 14,
+    UserMode = 15,
+    StalePage = 16,
+    WrongDomains = 17,
+    NotContext0 = 20,
 }
 
 // What a start or an operation answers: carried out with a value, carried out with a fault, or turned back.
@@ -108,12 +108,12 @@ pub struct Returned {
     pub registers: Registers,
 }
 
-// The sizes of a number in memory.
+// The sizes of a number in memory, in bytes.
 #[derive(Clone, Copy)]
 pub enum Size {
-    One,
-    Two,
-    Four,
+    One = 1,
+    Two = 2,
+    Four = 4,
 }
 
 // What an access is for: to read, to write, or to fetch an instruction.

@@ -1,8 +1,8 @@
 // The walk of two-level tables in byte memory, and the same over an image, which `walk_c` gives to C.
 #![tactic(auto)]
 
-ghost use Rattle.std.specs.Prelude.{◌≡◌, ◌<◌};
-ghost use Rattle.model.specs.Numbers.{fault_number, first_fault};
+ghost use Rattle.std.specs.Prelude.{◌≡◌, ◌+◌, ◌<◌};
+ghost use Rattle.model.specs.Numbers.{fault_number, refusal_number, first_fault};
 ghost use Rattle.model.specs.Telling.{Tells};
 ghost use Rattle.model.specs.step.Walk.{first_at, second_at, walk_page};
 ghost use Rattle.model.specs.step.WalkAnswer.{outcome_number, walk_answer};
@@ -12,28 +12,18 @@ use descriptor::{first_of, second_of};
 use limits::{in_window, memory_fits, root_fits};
 use memory::load;
 use model::{
-    Entry, Fault, FirstLevel, FirstOutcome, OLD_SPLIT, OLD_WINDOW, Outcome, Pointer, Size, Tables,
+    Entry, Fault, FirstLevel, FirstOutcome, OLD_SPLIT, OLD_WINDOW, Outcome, Pointer, Refusal, Size, Tables,
 };
 
 // The short-descriptor status code of a fault.
 pub fn fault_number(f: Fault) -> u32
     ensures { (result ≡ fault_number f) × (result < 16) }
 {
-    match f {
-        Fault::Alignment => 1,
-        Fault::FirstUnmapped => 5,
-        Fault::SecondUnmapped => 7,
-        Fault::SectionDomain => 9,
-        Fault::PageDomain => 11, // 0xb
-        Fault::SectionPermission => 13, // 0xd
-        Fault::PagePermission => 15, // 0xf
-        Fault::FirstOutside => 12, // 0xc
-        Fault::SecondOutside => 14, // 0xe
-        Fault::AccessOutside => 8,
-    }
+    f as u32
 }
 
 // What level one says of a page.
+#[tactic(auto, unfolding(model::specs::step::Walk::first_at))]
 pub fn level_one(m: &[u8], tables: Tables, page: usize) -> FirstOutcome
     ensures { Tells first_fault (first_at m.now tables page) result }
 {
@@ -43,6 +33,7 @@ pub fn level_one(m: &[u8], tables: Tables, page: usize) -> FirstOutcome
 }
 
 // What a table says of a page.
+#[tactic(auto, unfolding(model::specs::step::Walk::second_at))]
 pub fn level_two(m: &[u8], table: Pointer, page: usize) -> Outcome
     ensures { Tells outcome_number (second_at m.now table page) result }
 {
@@ -52,6 +43,7 @@ pub fn level_two(m: &[u8], table: Pointer, page: usize) -> Outcome
 }
 
 // The walk of a page.
+#[tactic(auto, unfolding(model::specs::step::Walk::walk_page))]
 pub fn walk(m: &[u8], tables: Tables, page: usize) -> Outcome
     ensures { Tells outcome_number (walk_page m.now tables page) result }
 {
@@ -80,22 +72,30 @@ fn outcome_number(o: Outcome) -> u64
 {
     match o {
         Ok(e) => entry_word(e) as u64,
-        Err(f) => 4294967296 + fault_number(f) as u64,
+        Err(f) => 0x100000000 + fault_number(f) as u64,
     }
 }
 
+// A refusal as such a number.
+fn refused(r: Refusal) -> u64
+    ensures { result ≡ 0x200000000 + refusal_number r }
+{
+    0x200000000 + r as u64
+}
+
 // The walk of one address: an entry's track word, 0x100000000 plus a fault, or 0x200000000 plus a refusal.
+#[tactic(auto, unfolding(model::specs::step::WalkAnswer::walk_answer))]
 pub fn walk_image(image: &[u8], root: u32, address: u32) -> u64
     ensures { result ≡ walk_answer image.now root address }
 {
-    if memory_fits(image.len()) {
-        if root_fits(OLD_SPLIT, root) {
-            if in_window(OLD_WINDOW, address) {
-                return outcome_number(walk(image, Tables { root }, address as usize / 4096)); // page_size
-            }
-            return 8589934600; // 0x200000000 plus refusal 8
-        }
-        return 8589934602; // plus 10
+    if !memory_fits(image.len()) {
+        return refused(Refusal::WrongLengths);
     }
-    8589934605 // plus 13
+    if !root_fits(OLD_SPLIT, root) {
+        return refused(Refusal::WrongRoot);
+    }
+    if !in_window(OLD_WINDOW, address) {
+        return refused(Refusal::WrongAddress);
+    }
+    outcome_number(walk(image, Tables { root }, address as usize / 4096)) // page_size
 }
