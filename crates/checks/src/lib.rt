@@ -153,18 +153,5 @@ pub fn check_start(m: usize, t: usize, setting: Setting) -> Result<(), Refusal>
 pub fn refusal_number(n: Refusal) -> u32
     ensures { (result ≡ refusal_number n) × (result < 32) }
 {
-    match n {
-        Refusal::WrongSize => 7,
-        Refusal::WrongAddress => 8,
-        Refusal::WrongValue => 9,
-        Refusal::WrongRoot => 10,
-        Refusal::WrongContext => 11,
-        Refusal::WrongMode => 12,
-        Refusal::WrongLengths => 13,
-        Refusal::WrongRegisters => 14,
-        Refusal::UserMode => 15,
-        Refusal::StalePage => 16,
-        Refusal::WrongDomains => 17,
-        Refusal::NotContext0 => 20,
-    }
+    n as u32
 }
