@@ -184,6 +184,7 @@ fn is_settled(window: u32, m: &[u8], tables: Tables, track: &[u32], context: usi
 }
 
 // Notes the row of a context, where the track has it, then the global row.
+#[tactic(auto, unfolding(model::specs::step::Track::note_track))]
 pub fn note_rows(window: u32, m: &[u8], tables: Tables, track: &mut [u32], context: usize)
     ensures { track.new ≡ note_track window m.now tables context track.old }
 {
