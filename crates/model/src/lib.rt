@@ -108,12 +108,12 @@ pub struct Returned {
     pub registers: Registers,
 }
 
-// The sizes of a number in memory.
+// The sizes of a number in memory, in bytes.
 #[derive(Clone, Copy)]
 pub enum Size {
-    One,
-    Two,
-    Four,
+    One = 1,
+    Two = 2,
+    Four = 4,
 }
 
 // What an access is for: to read, to write, or to fetch an instruction.

@@ -1,45 +1,40 @@
--- The test over the level-one words, from the last one down.
-use Prim.Native.Nat.{ℕ, zero, suc, ◌*◌, ◌-◌, ◌≤◌, ◌<◌}
-use mathlib.Core.Path.{◌≡◌, refl, sym, ap, ◌∙◌}
-use mathlib.Core.Bool.{Bool, true, false, cond, not}
+-- The test over the level-one words.
+use Prim.Native.Nat.{ℕ, zero, suc, ◌+◌}
+use mathlib.Core.Path.{◌≡◌, refl, ap, ◌∙◌}
+use mathlib.Core.Bool.{Bool, true, false, cond, ◌||◌}
 use mathlib.Core.List.{List}
+use Rattle.std.specs.List.{list_any, range_with_len}
 use native.Mathlib.Omega.{arith}
+use native.Mathlib.Nat.{zero-add}
 use Rattle.model.specs.step.Walk.{descriptor_at, first_from}
 use Rattle.model.specs.declared.Tables.{Tables}
-use Rattle.runs.specs.Used.{word_size, first_place}
-use Rattle.runs.specs.Quiet.{overlap, touches_table, touches_tables, touches, quiet}
+use Rattle.runs.specs.Used.{first_place}
+use Rattle.runs.specs.Quiet.{touches_table, touches_tables}
 
-pub one_mib : (m : List ℕ) (tables : Tables) (at n k : ℕ) → 0 < k → touches_tables m tables k at n ≡ cond (touches_table (first_from (descriptor_at m (first_place tables.root (k - 1))) 0) at n) true (touches_tables m tables (k - 1) at n)
-unfolding touches_tables
-one_mib m tables at n zero h = absurd (let z : ⊥ = omega arith in z)
-one_mib m tables at n (suc k) h = ap (λ j. cond (touches_table (first_from (descriptor_at m (first_place tables.root j)) 0) at n) true (touches_tables m tables j at n)) less
+-- a test of one number more
+any_last : (test : ℕ → Bool) (a k : ℕ) → list_any test (range_with_len a (suc k)) ≡ cond (test (a + k)) true (list_any test (range_with_len a k))
+any_last test a zero = last (a + 0) (omega arith)
   where
-    less : k ≡ suc k - 1
-    less = omega arith
+    last : (b : ℕ) → a ≡ b → test a || false ≡ cond (test b) true false
+    last b e = rw (← e) (by_cases (test a))
+      where
+        by_cases : (x : Bool) → x || false ≡ cond x true false
+        by_cases true = refl
+        by_cases false = refl
+any_last test a (suc k) = ap (λ b. test a || b) (any_last test (a + 1) k) ∙ rest (a + suc k) (omega arith)
+  where
+    by_cases : (x y z : Bool) → x || cond y true z ≡ cond y true (x || z)
+    by_cases true true z = refl
+    by_cases true false z = refl
+    by_cases false y z = refl
 
--- a test that said no, in front of another
-pub apart : {r x y : Bool} → r ≡ x → r ≡ false → cond x true y ≡ y
-apart p q = rw (sym p ∙ q)
+    rest : (b : ℕ) → a + 1 + k ≡ b → test a || cond (test (a + 1 + k)) true (list_any test (range_with_len (a + 1) k)) ≡ cond (test b) true (test a || list_any test (range_with_len (a + 1) k))
+    rest b e = rw (← e) (by_cases (test a) (test (a + 1 + k)) (list_any test (range_with_len (a + 1) k)))
 
-pub none_left : (m : List ℕ) (tables : Tables) (at n k : ℕ) → k ≤ 0 → touches_tables m tables k at n ≡ false
+-- the test of k MiB from the first one up
+pub each_mib : (m : List ℕ) (tables : Tables) (at n k : ℕ) → list_any (λ (i : ℕ). touches_table (first_from (descriptor_at m (first_place tables.root i)) 0) at n) (range_with_len 0 k) ≡ touches_tables m tables k at n
 unfolding touches_tables
-none_left m tables at n zero h = refl
-none_left m tables at n (suc k) h = absurd (let z : ⊥ = omega arith in z)
-
--- the word before k is met
-pub met : (m : List ℕ) (tables : Tables) (at n k : ℕ) → 0 < k → {r : Bool} → r ≡ touches_table (first_from (descriptor_at m (first_place tables.root (k - 1))) 0) at n → r ≡ true → touches_tables m tables k at n ≡ true
-met m tables at n k h p q = one_mib m tables at n k h ∙ ap (λ b. cond b true (touches_tables m tables (k - 1) at n)) (sym p ∙ q)
-
--- the whole test of n bytes, by what the two tests said: a level-one word is touched, or none is
-pub word_met : (w : ℕ) (m : List ℕ) (tables : Tables) (at n k : ℕ) → {r : Bool} → r ≡ overlap at n tables.root (word_size * w) → r ≡ true → n ≡ k → false ≡ quiet w m tables at k
-unfolding quiet touches
-word_met w m tables at n k p q e =
-    ap (λ b. not (cond b true (touches_tables m tables w at n))) (sym q ∙ p) ∙ ap (λ i. not (touches m tables w at i)) e
-
-pub no_word_met : (w : ℕ) (m : List ℕ) (tables : Tables) (at n k : ℕ) → {r s : Bool} → r ≡ overlap at n tables.root (word_size * w) → r ≡ false →
-    s ≡ touches_tables m tables w at n → n ≡ k → not s ≡ quiet w m tables at k
-unfolding quiet touches
-no_word_met w m tables at n k p q f e =
-    ap not f
-    ∙ ap (λ b. not (cond b true (touches_tables m tables w at n))) (sym q ∙ p)
-    ∙ ap (λ i. not (touches m tables w at i)) e
+each_mib m tables at n zero = refl
+each_mib m tables at n (suc k) =
+    any_last (λ (i : ℕ). touches_table (first_from (descriptor_at m (first_place tables.root i)) 0) at n) 0 k
+    ∙ rw (zero-add k, each_mib m tables at n k)

@@ -11,13 +11,11 @@ use memory::{bytes, load};
 use model::{FirstLevel, FirstOutcome, Size, Tables};
 
 // Whether the n bytes from a on and the k bytes from b on have one in common.
+#[tactic(auto, unfolding(runs::specs::Quiet::overlap))]
 fn overlaps(a: usize, n: usize, b: usize, k: usize) -> bool
     ensures { result ≡ overlap a n b k }
 {
-    if a < b {
-        return b - a < n;
-    }
-    a - b < k
+    if a < b { b - a < n } else { a - b < k }
 }
 
 // Whether the n bytes from `at` on touch the table that a level-one word points to, if it points to one.
@@ -34,33 +32,22 @@ fn touches_table(x: FirstOutcome, at: usize, n: usize) -> bool
 fn touches_mib(m: &[u8], first: usize, at: usize, n: usize) -> bool
     ensures { result ≡ touches_table (first_from (descriptor_at m.now first) 0) at n }
 {
-    match load(m, first, Size::Four) {
-        Some(w) => touches_table(first_of(w, 0), at, n),
-        None => false,
-    }
+    load(m, first, Size::Four).is_some_and(|w| touches_table(first_of(w, 0), at, n))
 }
 
 // Whether they touch the table of one of the first `mibs` MiB.
 fn touches_tables(m: &[u8], tables: Tables, mibs: u32, at: usize, n: usize) -> bool
     ensures { result ≡ touches_tables m.now tables mibs at n }
 {
-    let mut i = mibs as usize;
-    while 0 < i {
-        i -= 1;
-        if touches_mib(m, tables.root as usize + 4 * i, at, n) {
-            return true;
-        }
-    }
-    false
+    (0..mibs).any(|i| touches_mib(m, tables.root as usize + 4 * i as usize, at, n))
 }
 
 // Whether a store of this size at `at` is quiet: it touches no level-one word of the window, and none of these tables.
+#[tactic(auto, unfolding(runs::specs::Quiet::quiet, runs::specs::Quiet::touches))]
 pub fn is_quiet(window: u32, m: &[u8], tables: Tables, at: usize, size: Size) -> bool
     ensures { result ≡ quiet window m.now tables at (bytes_of size) }
 {
     let n = bytes(size);
-    if overlaps(at, n, tables.root as usize, 4 * window as usize) { // wordSize
-        return false;
-    }
-    !touches_tables(m, tables, window, at, n)
+    let words = 4 * window as usize; // word_size
+    !overlaps(at, n, tables.root as usize, words) && !touches_tables(m, tables, window, at, n)
 }

@@ -1,23 +1,17 @@
-use mathlib.Core.Path.{refl, sym, ◌∙◌}
+use mathlib.Core.Path.{refl, ◌∙◌}
 use native.Mathlib.Omega.{arith}
-use Rattle.quiet.proofs.Laws.{one_mib, met, none_left, apart}
+use Prim.Native.Nat.{ℕ}
+use Rattle.std.proofs.Common.{rules, tests}
+use Rattle.std.proofs.lemmas.Iterator.{YieldsList-from_range}
+use Rattle.std.proofs.lemmas.Iterator.Search.{any_from_yields_List}
+use Rattle.model.specs.step.Walk.{descriptor_at, first_from}
+use Rattle.runs.specs.Quiet.{touches_table}
+use Rattle.runs.specs.Used.{first_place}
+use Rattle.quiet.proofs.Laws.{each_mib}
 use Rattle.quiet.proofs.touches_tables.Goals as goal
-
-pub loop-i-init : goal.loop-i-init
-loop-i-init c = (omega arith, refl)
-
-pub returns-then-touches_mib : goal.returns-then-touches_mib
-returns-then-touches_mib c = let a = c.args in
-    sym (met a.m.now a.tables a.at a.n c.loop-i.i (omega arith) c.touches_mib.ensures c.if-touches_mib.true) ∙ c.loop-i.invariant.1
-
-pub loop-i-preserved : goal.loop-i-preserved
-loop-i-preserved c = let a = c.args in (
-  omega arith,
-  sym (apart c.touches_mib.ensures c.if-touches_mib.false)
-      ∙ sym (one_mib a.m.now a.tables a.at a.n c.loop-i.i (omega arith))
-      ∙ c.loop-i.invariant.1,
-)
 
 pub returns : goal.returns
 returns c = let a = c.args in
-    sym (none_left a.m.now a.tables a.at a.n c.loop-i.i (omega arith)) ∙ c.loop-i.invariant.1
+    any_from_yields_List (λ (i : ℕ). touches_table (first_from (descriptor_at a.m.now (first_place a.tables.root i)) 0) a.at a.n) _ _ _ c.any.ensures.ran
+    (YieldsList-from_range 0 a.mibs a.mibs refl (omega arith)) (λ x b q k. search (rules, tests))
+    ∙ each_mib a.m.now a.tables a.at a.n a.mibs
