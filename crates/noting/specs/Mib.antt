@@ -1,5 +1,5 @@
 -- Noting the pages of a MiB, which share one level-one descriptor.
-use Rattle.std.specs.Prelude.{ℕ, ◌+◌, ◌*◌, ◌≡◌, min, List}
+use Rattle.std.specs.Prelude.{ℕ, ◌+◌, ◌*◌, ◌<◌, ◌≡◌, min, List}
 use Rattle.model.specs.step.Rows.{map_words}
 use Rattle.model.specs.step.Walk.{descriptor_at, first_from, walk_from}
 use Rattle.model.specs.step.Track.{add_outcome}
@@ -14,7 +14,17 @@ pub record IsMibRange (mib n start end : ℕ) : Type 0 where
   pub from : start ≡ min (mib * mib_pages) n
   pub to : end ≡ min (start + mib_pages) n
 
--- a word of a row of kind g after noting page i of the MiB whose level-one descriptor stands at `at`
+-- for the first n pages, whatever a call of this kind answers is what f says
+abbrev pub Finds : (ℕ → Outcome → Type 0) → ℕ → (ℕ → Outcome) → Type 0
+Finds post n f = (i : ℕ) (o : Outcome) → i < n → post i o → o ≡ f i
+
+-- Words of a row of kind g.
+
+-- a word after noting page i, whose walk finds what f says
+abbrev pub note_found : (ℕ → Outcome) → ℕ → ℕ → ℕ → ℕ
+note_found f g i w = add_outcome g w (f i)
+
+-- a word after noting page i of the MiB whose level-one descriptor stands at `at`
 abbrev pub note_mib : List ℕ → ℕ → ℕ → ℕ → ℕ → ℕ
 note_mib m at g i w = add_outcome g w (walk_from (first_from (descriptor_at m at) i) m i)
 

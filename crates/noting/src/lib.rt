@@ -3,20 +3,20 @@
 // context's row, 1 for the global row.
 #![tactic(auto)]
 
-ghost use Rattle.std.specs.Prelude.{◌≡◌, true, length};
+ghost use Rattle.std.specs.Prelude.{◌≡◌, ℕ, true, ◌+◌, ◌-◌, ◌*◌, ◌/◌, ◌<◌, ◌≤◌, min, length};
 ghost use Rattle.model.specs.Limits.{row_size};
 ghost use Rattle.model.specs.step.Rows.{map_words, in_row};
-ghost use Rattle.model.specs.step.Walk.{first_of, walk_from};
+ghost use Rattle.model.specs.Types.{Outcome};
+ghost use Rattle.model.specs.step.Walk.{second_at};
 ghost use Rattle.model.specs.step.Track.{add_outcome, note_page, note_row, note_track};
-ghost use Rattle.noting.specs.Mib.{note_mib, IsMibRange, Stays, Both};
+ghost use Rattle.noting.specs.Mib.{mib_pages, Finds, note_found, note_mib, IsMibRange, Stays, Both};
 
-use descriptor::first_of;
+use descriptor::{first_of, second_of, section_entry};
 use limits::{last_row, row_range};
-use memory::load;
-use model::{FirstLevel, Outcome, Size, Tables};
+use memory::{load, number};
+use model::{FirstLevel, Outcome, Pointer, Size, Tables};
 use std::ops::Range;
 use track::add_entry;
-use walk::level_two;
 
 // How many pages a MiB has: mib_pages.
 const MIB: usize = 256;
@@ -31,23 +31,49 @@ pub fn add_outcome(global: u32, w: u32, o: Outcome) -> u32
     }
 }
 
-// What the walk of a page finds, by the word x of its level-one descriptor.
-fn found(m: &[u8], x: u32, page: usize) -> Outcome
-    ensures { result ≡ walk_from (first_of x page) m.now page }
+// Notes pages by what their walks find: word i is that of page i.
+fn note_pages<F: Fn(usize) -> Outcome>(global: u32, pages: &mut [u32], found: F)
+    requires { (i : ℕ) → i < length pages.old → F.pre found i }
+    ensures { (f : ℕ → Outcome) → Finds (F.post found) (length pages.old) f → pages.new ≡ map_words (note_found f global) pages.old }
 {
-    match first_of(x, page)? {
-        FirstLevel::Section(e) => Ok(e),
-        FirstLevel::Table(table) => level_two(m, table, page),
+    for i in 0..pages.len() {
+        pages[i] = add_outcome(global, pages[i], found(i));
     }
 }
 
-// Notes the pages of the MiB whose level-one descriptor stands at `at`: word i is that of page i.
+// What a table says of page i of its MiB, whose descriptor lies in memory.
+#[tactic(auto, using(crate::proofs::Mib::table_word))]
+fn table_page(m: &[u8], table: Pointer, i: usize) -> Outcome
+    requires one_mib { i < mib_pages }
+    requires inside { table.base + 4 * i + 4 ≤ length m.now }
+    ensures { result ≡ second_at m.now table i }
+{
+    let at = table.base as usize + 4 * i;
+    let w = number(m[at], m[at + 1], m[at + 2], m[at + 3]);
+    second_of(w, i, table.domain)
+}
+
+// How many of the n words from `base` on lie in memory.
+fn words_inside(m: &[u8], base: usize, n: usize) -> usize
+    ensures { result ≡ min ((length m.now - base) / 4) n }
+{
+    (m.len().saturating_sub(base) / 4).min(n)
+}
+
+// Notes the pages of the MiB whose level-one descriptor stands at `at`: word i is that of page i. A page whose level-two descriptor lies
+// outside memory stays as it is.
 fn note_mib(m: &[u8], at: usize, global: u32, mib: &mut [u32])
+    requires { length mib.old ≤ mib_pages }
     ensures { mib.new ≡ map_words (note_mib m.now at global) mib.old }
 {
     if let Some(x) = load(m, at, Size::Four) {
-        for i in 0..mib.len() {
-            mib[i] = add_outcome(global, mib[i], found(m, x, i));
+        match first_of(x, 0) {
+            Ok(FirstLevel::Section(_)) => note_pages(global, mib, |i| Ok(section_entry(x, i))),
+            Ok(FirstLevel::Table(table)) => {
+                let n = words_inside(m, table.base as usize, mib.len());
+                note_pages(global, &mut mib[..n], |i| table_page(m, table, i));
+            }
+            Err(_) => {}
         }
     }
 }
@@ -96,17 +122,34 @@ fn stays(own: u32, shared: u32, o: Outcome) -> bool
     }
 }
 
+// Whether noting pages by what their walks find leaves their words as they are. No word ends the look early, which would be slower.
+fn pages_settled<F: Fn(usize) -> Outcome>(own: &[u32], shared: &[u32], found: F) -> bool
+    requires same { length shared.now ≡ length own.now }
+    requires callable { (i : ℕ) → i < length own.now → F.pre found i }
+    ensures { (f : ℕ → Outcome) → Finds (F.post found) (length own.now) f → result ≡ true → Both (note_found f) own.now shared.now }
+{
+    let mut settled = true;
+    for i in 0..own.len() {
+        settled &= stays(own[i], shared[i], found(i));
+    }
+    settled
+}
+
 // Whether noting leaves the words of the MiB as they are whose level-one descriptor stands at `at`.
 fn mib_settled(m: &[u8], at: usize, own: &[u32], shared: &[u32]) -> bool
-    requires { length shared.now ≡ length own.now }
+    requires same { length shared.now ≡ length own.now }
+    requires one_mib { length own.now ≤ mib_pages }
     ensures { result ≡ true → Both (note_mib m.now at) own.now shared.now }
 {
     if let Some(x) = load(m, at, Size::Four) {
-        for i in 0..own.len() {
-            if !stays(own[i], shared[i], found(m, x, i)) {
-                return false;
+        return match first_of(x, 0) {
+            Ok(FirstLevel::Section(_)) => pages_settled(own, shared, |i| Ok(section_entry(x, i))),
+            Ok(FirstLevel::Table(table)) => {
+                let n = words_inside(m, table.base as usize, own.len());
+                pages_settled(&own[..n], &shared[..n], |i| table_page(m, table, i))
             }
-        }
+            Err(_) => true,
+        };
     }
     true
 }
@@ -141,6 +184,7 @@ fn is_settled(window: u32, m: &[u8], tables: Tables, track: &[u32], context: usi
 }
 
 // Notes the row of a context, where the track has it, then the global row.
+#[tactic(auto, unfolding(model::specs::step::Track::note_track))]
 pub fn note_rows(window: u32, m: &[u8], tables: Tables, track: &mut [u32], context: usize)
     ensures { track.new ≡ note_track window m.now tables context track.old }
 {

@@ -70,6 +70,7 @@ fn empty_in(window: u32, track: &mut [u32], row: usize, page: usize)
 }
 
 // Empties the set of a page in a context, where the track has it, and its global set.
+#[tactic(auto, unfolding(model::specs::step::Track::flush_page_in))]
 pub fn flush_page_in(window: u32, track: &mut [u32], context: usize, page: usize)
     ensures { track.new ≡ flush_page_in window context page track.old }
 {
