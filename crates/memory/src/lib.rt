@@ -24,7 +24,8 @@ pub fn bytes(size: Size) -> usize
 pub fn inside(m: &[u8], at: usize, size: Size) -> bool
     ensures { result ≡ within size m.now at }
 {
-    at < m.len().saturating_sub(bytes(size) - 1)
+    let rest = bytes(size) - 1;
+    at < m.len().saturating_sub(rest)
 }
 
 // The number of this size at `at`, if it lies in memory.
