@@ -12,7 +12,8 @@ use descriptor::{first_of, second_of};
 use limits::{in_window, memory_fits, root_fits};
 use memory::load;
 use model::{
-    Entry, Fault, FirstLevel, FirstOutcome, OLD_SPLIT, OLD_WINDOW, Outcome, Pointer, Refusal, Size, Tables,
+    Entry, Fault, FirstLevel, FirstOutcome, OLD_SPLIT, OLD_WINDOW, Outcome, Pointer, Refusal, Size,
+    Tables,
 };
 
 // The short-descriptor status code of a fault.
