@@ -22,7 +22,7 @@ pub fn field_of(domains: u32, domain: u32) -> u32
     }
 }
 
-// The size that a field names, where it names one.
+// The size that a field names, and four bytes where it names none.
 pub fn size_of(b: u32) -> Size
     ensures { Tells bytes_of (size_of b) result }
 {

@@ -9,7 +9,7 @@ use input::Got;
 use std::array;
 use std::io::Read;
 
-// How many bytes the list has, which is looked at only after a start that is accepted.
+// How many bytes the list has. It is read only after a start that is accepted.
 fn read_list<R: Read>(wanted: bool, list: &mut R, buf: &mut [u8]) -> Result<usize, Got>
     ensures { IfOk result (λ count. IsPrefixLen count buf.new) }
 {

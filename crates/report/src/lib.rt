@@ -25,8 +25,7 @@ pub enum NoReport {
 fn memory_length(n: usize) -> usize
     ensures { result ≡ memory_length n }
 {
-    // image_limit
-    if n <= 32768 { n } else { 0 }
+    if n <= 32768 { n } else { 0 } // image_limit
 }
 
 // Whether the list is looked at: a start from an image file of n bytes is accepted.
