@@ -8,7 +8,7 @@ ghost use Rattle.model.specs.step.Memory.{bytes_of};
 ghost use Rattle.model.specs.step.Rights.{field_at};
 ghost use Rattle.model.specs.step.Machine.{size_of, permission_fault_of, domain_fault_of, reached, granted, decided, access_at};
 
-use model::{Access, Entry, Fault, OLD_WINDOW, Outcome, Purpose, Registers, Ruling, Size, Tables};
+use model::{Access, Entry, Fault, OLD_WINDOW, Outcome, Purpose, Registers, Ruling, Size};
 
 // The field of a domain in a domain register.
 #[tactic(auto, using(crate::proofs::Laws::field_shifted, crate::proofs::Laws::field_beyond))]
@@ -111,7 +111,7 @@ pub fn access_at(r: Registers, m: &[u8], t: &[u32], purpose: Purpose, size: Size
     ensures { Tells access_result (access_at r m.now t.now purpose size a) result }
 {
     let page = a as usize / 4096; // page_size
-    let o = walk::walk(m, Tables { root: r.root }, page);
+    let o = walk::walk(m, r.tables(), page);
     let stale = track::is_stale_page(OLD_WINDOW, t, r.context, page, o);
     decide(o, stale, r, purpose, size, a, m)
 }

@@ -40,7 +40,7 @@ pub fn large_entry(w: u32, page: usize, domain: u32) -> Entry
         section: 0,
         global: 1 - w / 2048 % 2,
         xn: w / 32768 % 2,
-        domain: domain,
+        domain,
     }
 }
 
@@ -54,7 +54,7 @@ pub fn small_entry(w: u32, domain: u32) -> Entry
         section: 0,
         global: 1 - w / 2048 % 2,
         xn: w % 2,
-        domain: domain,
+        domain,
     }
 }
 

@@ -65,9 +65,9 @@ user_same : (n : ℕ) → user_rights n ≡ step_right (user_column n)
 unfolding all_below user_rights
 user_same = rights_by_table user_rights (λ n. step_right (user_column n)) refl past_user
 
-rights_of_same : (ap mode : ℕ) → rights_of ap mode ≡ step_right (right_of ap mode)
+rights_level : (ap mode : ℕ) → rights_of ap mode ≡ step_right (right_of ap mode)
 unfolding rights_of right_of
-rights_of_same ap mode = rw (kernel_same ap, user_same ap) (sym (push step_right (eqb mode 0) (kernel_column ap) (user_column ap)))
+rights_level ap mode = rw (kernel_same ap, user_same ap) (sym (push step_right (eqb mode 0) (kernel_column ap) (user_column ap)))
 
 may_read_lem : (x : Right) → at_least Reading (step_right x) ≡ may_read x
 unfolding may_read
@@ -89,9 +89,9 @@ may_fetch writing xn = refl
 
 rights_same : (ap mode : ℕ) (purpose : Purpose) (xn : ℕ) → permitted ap mode purpose xn ≡ permits purpose (right_of ap mode) xn
 unfolding permitted permits
-rights_same ap mode ToRead xn = rw (rights_of_same ap mode) (may_read_lem (right_of ap mode))
-rights_same ap mode ToWrite xn = rw (rights_of_same ap mode) (may_write_lem (right_of ap mode))
-rights_same ap mode ToFetch xn = rw (rights_of_same ap mode) (may_fetch (right_of ap mode) xn)
+rights_same ap mode ToRead xn = rw (rights_level ap mode) (may_read_lem (right_of ap mode))
+rights_same ap mode ToWrite xn = rw (rights_level ap mode) (may_write_lem (right_of ap mode))
+rights_same ap mode ToFetch xn = rw (rights_level ap mode) (may_fetch (right_of ap mode) xn)
 
 -- by the field of a domain: the tests for 1 and for 3 in either order
 pub ruling_same : (ap mode : ℕ) (purpose : Purpose) (field xn : ℕ) → ruling_of ap mode purpose field xn ≡ ruling ap mode purpose field xn

@@ -3,13 +3,26 @@
 #![tactic(auto)]
 
 // The registers: the address of the level-one table, the current context (an ASID), the mode, 0 kernel or 1 user, and the domain
-// register, which has a field of two bits for each of sixteen domains.
+// register, which has a field of two bits for each of sixteen domains. Its fields are numbers, since a call may hand any: the check
+// of registers turns back what is none (14).
 #[derive(Clone, Copy)]
 pub struct Registers {
     pub root: u32,
     pub context: u32,
     pub mode: u32,
     pub domains: u32,
+}
+
+impl Registers {
+    ghost use Rattle.std.specs.Prelude.{◌≡◌};
+    ghost use Rattle.model.specs.step.Machine.{tables_of};
+
+    // The tables that the registers name.
+    pub fn tables(self) -> Tables
+        ensures { result ≡ tables_of self }
+    {
+        Tables { root: self.root }
+    }
 }
 
 // The machine of the rules: the N of its TTBCR, and its window in MiB (old_split, old_window).
@@ -50,7 +63,7 @@ pub struct Operation {
 
 // What a page maps to: the number of its 4 KiB frame, its access permissions AP[2:0], 1 where a section maps it, else 0, 1 where
 // it is global, so that every context may use it, else 0, its XN bit: 1 where nothing may be fetched through it, else 0, and its
-// domain, 0 to 15.
+// domain, 0 to 15. They are numbers, and what is promised of an entry is promised of each.
 #[derive(Clone, Copy)]
 pub struct Entry {
     pub frame: u32,

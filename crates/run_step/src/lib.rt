@@ -15,7 +15,6 @@ use access::{access_at, size_of};
 use machine::{carry_out, with_domains, with_mode};
 use model::{
     Access, Answer, Kind, OLD_WINDOW, Operation, Purpose, Refusal, Registers, Returned, Size,
-    Tables,
 };
 use page_noting::note_page;
 use transfer::value_of;
@@ -39,7 +38,7 @@ fn read_from(x: Access, size: Size, r: Registers, m: &[u8], t: &[u32]) -> Return
 fn store(at: usize, size: Size, v: u32, r: Registers, m: &mut [u8], t: &mut [u32])
     ensures { (m.new ≡ written_at size m.old at v) × (t.new ≡ note_extent old_window (cond (quiet old_window m.old (tables_of r) at (bytes_of size)) no_page every_page) m.new (tables_of r) r.context t.old) }
 {
-    if quiet::is_quiet(OLD_WINDOW, m, Tables { root: r.root }, at, size) {
+    if quiet::is_quiet(OLD_WINDOW, m, r.tables(), at, size) {
         memory::store(m, at, size, v);
     } else {
         transfer::store_and_note(at, size, v, r, m, t);
@@ -68,8 +67,7 @@ fn write_to(x: Access, size: Size, v: u32, r: Registers, m: &mut [u8], t: &mut [
 fn note_again(page: usize, r: Registers, m: &[u8], t: &mut [u32])
     ensures { t.new ≡ note_one_page old_window m.now (tables_of r) r.context page t.old }
 {
-    let tables = Tables { root: r.root };
-    note_page(OLD_WINDOW, m, tables, t, r.context as usize, page);
+    note_page(OLD_WINDOW, m, r.tables(), t, r.context as usize, page);
 }
 
 // Empties the sets of a context, and notes every page again if it is the current one.
@@ -78,8 +76,7 @@ fn flush_context(named: u32, r: Registers, m: &[u8], t: &mut [u32])
 {
     track::flush_context(OLD_WINDOW, t, named as usize);
     if named == r.context {
-        let tables = Tables { root: r.root };
-        noting::note_rows(OLD_WINDOW, m, tables, t, r.context as usize);
+        noting::note_rows(OLD_WINDOW, m, r.tables(), t, r.context as usize);
     }
 }
 

@@ -8,7 +8,7 @@ ghost use Rattle.model.specs.step.Memory.{written_at};
 ghost use Rattle.model.specs.step.Track.{note_track};
 
 use access::access_at;
-use model::{Access, Answer, OLD_WINDOW, Purpose, Refusal, Registers, Returned, Size, Tables};
+use model::{Access, Answer, OLD_WINDOW, Purpose, Refusal, Registers, Returned, Size};
 
 // The number that loading found.
 pub fn value_of(x: Option<u32>) -> u32
@@ -21,7 +21,7 @@ pub fn value_of(x: Option<u32>) -> u32
 pub fn carry(x: Answer, left: Registers, m: &[u8], t: &mut [u32]) -> Returned
     ensures { Gives (carried x left m.now t.old) result m.now t.new }
 {
-    let tables = Tables { root: left.root };
+    let tables = left.tables();
     noting::note(OLD_WINDOW, m, tables, t, left.context as usize);
     Returned {
         answer: x,
@@ -33,13 +33,7 @@ pub fn carry(x: Answer, left: Registers, m: &[u8], t: &mut [u32]) -> Returned
 pub fn carry_flushed(answer: Answer, r: Registers, m: &[u8], t: &mut [u32]) -> Returned
     ensures { Gives (carried answer r m.now t.old) result m.now t.new }
 {
-    noting::note_rows(
-        OLD_WINDOW,
-        m,
-        Tables { root: r.root },
-        t,
-        r.context as usize,
-    );
+    noting::note_rows(OLD_WINDOW, m, r.tables(), t, r.context as usize);
     Returned {
         answer,
         registers: r,
@@ -50,7 +44,7 @@ pub fn carry_flushed(answer: Answer, r: Registers, m: &[u8], t: &mut [u32]) -> R
 pub fn store_and_note(at: usize, size: Size, v: u32, r: Registers, m: &mut [u8], t: &mut [u32])
     ensures { (m.new ≡ written_at size m.old at v) × (t.new ≡ note_track old_window m.new (tables_of r) r.context t.old) }
 {
-    let tables = Tables { root: r.root };
+    let tables = r.tables();
     memory::store(m, at, size, v);
     noting::note(OLD_WINDOW, m, tables, t, r.context as usize);
 }
