@@ -62,9 +62,11 @@ accept r end zero = record { flaw = None; lines = line_after r.lines; count = 0;
 abbrev pub changed : Reader → State → State
 changed r s = record { reader = r; line = s.line; image = s.image }
 
+-- the line being read is turned back; the buffers stay
 abbrev pub turned : Flaw → State → State
 turned f s = changed (turn f s.reader) s
 
+-- the line being read is accepted; the image ends at `end` so far, and `zero` says whether the last word is zero; the buffers stay
 abbrev pub accepted : ℕ → Bool → State → State
 accepted end zero s = changed (accept s.reader end zero) s
 
@@ -145,10 +147,10 @@ by_flaw (Some f) r m = refusal r.lines (flaw_number f)
 abbrev pub ending : Reader → List ℕ → Converted
 ending r m = by_flaw r.flaw r m
 
--- the same, told by the line and the number of the refusal, where there is one
-abbrev pub ending_by : Option (ℕ × ℕ) → Reader → List ℕ → Converted
+-- the same, told by the line of the refusal and why, where there is one
+abbrev pub ending_by : Option (ℕ × Flaw) → Reader → List ℕ → Converted
 ending_by None r m = gives (take r.end m)
-ending_by (Some (n, k)) r m = refusal n k
+ending_by (Some (n, f)) r m = refusal n (flaw_number f)
 
 -- what a call at the end of the input answers, and what it leaves in the image's buffer
 pub record EndCall : Type 0 where

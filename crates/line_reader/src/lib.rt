@@ -5,12 +5,12 @@
 ghost use Rattle.std.specs.Prelude.{◌≡◌, ◌≤◌, length, replicate, IfOk, IsNone};
 ghost use Rattle.text.specs.Put.{wrote, place_after};
 ghost use Rattle.lines.specs.Form.{line_of, pair_text, pair_room};
-ghost use Rattle.line_reader.specs.Reading.{SameBuffers, state_of, fresh, line_after, turned, accepted, so_far, with_byte, names_ended, word_ended, line_ended, step, feed, is_decided, complete, ending, ending_by, finished, finished_file};
+ghost use Rattle.line_reader.specs.Reading.{SameBuffers, state_of, fresh, line_after, turned, accepted, so_far, with_byte, names_ended, word_ended, line_ended, step, feed, flaw_number, is_decided, complete, ending, ending_by, finished, finished_file};
 
 use model::Size;
 use text::Writer;
 
-// Why a line is turned back, by the numbers of the rules: the names or the shape or spelling of a line; an address or a zero word.
+// Why lines are turned back, by the numbers of the rules: the names or the shape or spelling of a line; an address, a zero word or the length.
 #[derive(Clone, Copy)]
 pub enum Flaw {
     Form = 18,
@@ -54,11 +54,11 @@ fn read_line(line: &[u8]) -> Option<(u32, u32)>
 }
 
 // Puts a refusal in front of what the buffer holds, and tells how long it is.
-fn refuse(image: &mut [u8], line: u32, number: u32) -> usize
-    ensures { (result ≡ place_after pair_room image.old 0 (pair_text line number)) × (image.new ≡ wrote pair_room image.old 0 (pair_text line number)) }
+fn refuse(image: &mut [u8], line: u32, flaw: Flaw) -> usize
+    ensures { (result ≡ place_after pair_room image.old 0 (pair_text line (flaw_number flaw))) × (image.new ≡ wrote pair_room image.old 0 (pair_text line (flaw_number flaw))) }
 {
     let mut w = Writer::new(image);
-    line_writer::put_pair(&mut w, line, number);
+    line_writer::put_pair(&mut w, line, flaw as u32);
     w.at
 }
 
@@ -93,21 +93,21 @@ impl Reader {
         self.count == 0 && 0 < self.lines
     }
 
-    // The line and the number of the refusal, where the lines have no image: the length is tested last, and the limit is that of the image's
+    // The line of the refusal and why, where the lines have no image: the length is tested last, and the limit is that of the image's
     // buffer.
     #[tactic(auto, unfolding(crate::specs::Reading::last_test), using(lines::proofs::Theorem::fits_parts))]
-    fn refusal(self, image: &[u8]) -> Option<(u32, u32)>
+    fn refusal(self, image: &[u8]) -> Option<(u32, Flaw)>
         ensures ending { ending self image.now ≡ ending_by result self image.now }
         ensures fits { IsNone result → self.end ≤ length image.now }
     {
         if let Some(flaw) = self.flaw {
-            return Some((self.lines, flaw as u32));
+            return Some((self.lines, flaw));
         }
         if !self.is_complete() {
-            return Some((line_after(self.lines), 18));
+            return Some((line_after(self.lines), Flaw::Form));
         }
         if !line_writer::length_fits(image.len(), self.end) {
-            return Some((0, 19));
+            return Some((0, Flaw::Order));
         }
         None
     }
@@ -123,7 +123,7 @@ impl Reader {
             return Err(NoOutput::ShortBuffer);
         }
         match self.refusal(image) {
-            Some((line, number)) => Ok(refuse(image, line, number)),
+            Some((line, flaw)) => Ok(refuse(image, line, flaw)),
             None => Ok(self.end),
         }
     }

@@ -1,11 +1,13 @@
 -- The lines of an image's words, one behind the other in a buffer. Assumes nothing.
-use Prim.Native.Nat.{ℕ, suc, ◌+◌, ◌*◌, ◌-◌, ◌/◌, ◌≤◌, ◌<◌}
+use Prim.Native.Nat.{ℕ, zero, suc, ◌+◌, ◌*◌, ◌-◌, ◌/◌, ◌≤◌, ◌<◌}
 use mathlib.Core.Path.{◌≡◌, refl, ap, ap₂, sym, ◌∙◌, subst}
 use mathlib.Core.Bool.{Bool, true, false, cond}
 use mathlib.Core.List.{List, [], ◌∷◌, ◌++◌}
 use native.Mathlib.Omega.{arith}
 use lib.Dec.{eqb}
 use lib.ListN.{length, get_or, take, drop, length-append, length-drop}
+use Rattle.std.specs.Simd.{first_chunks}
+use Rattle.std.proofs.lemmas.List.{get_or-take, get_or-drop}
 use lib.Seq.{drop-cons, take_all}
 use borrow.Author.Tests.{ne_eqb, le-ltb}
 use Rattle.text.specs.Put.{over, has_room, wrote, place_after}
@@ -39,6 +41,18 @@ four_bytes l i h =
   where
     next : (k j : ℕ) → k ≡ j → j < length l → drop k l ≡ get_or l j 0 ∷ drop (suc j) l
     next k j e p = ap (λ (n : ℕ). drop n l) e ∙ drop-cons l j 0 p
+
+-- byte j of the k-th four bytes of an image
+four_at : (m : List ℕ) (n k j : ℕ) → k < n → j < 4 → get_or (get_or (first_chunks 4 n m) k []) j 0 ≡ get_or m (4 * k + j) 0
+four_at m zero k j h p = absurd (let e : ⊥ = omega arith in e)
+four_at m (suc n) zero j h p = get_or-take 4 m j 0 p ∙ ap (λ (i : ℕ). get_or m i 0) (let e : j ≡ 4 * 0 + j = omega arith in e)
+four_at m (suc n) (suc k) j h p = four_at (drop 4 m) n k j (omega arith) p ∙ get_or-drop 4 m (4 * k + j) 0 ∙ ap (λ (i : ℕ). get_or m i 0) (let e : 4 + (4 * k + j) ≡ 4 * suc k + j = omega arith in e)
+
+-- the word of the k-th four bytes
+pub word_four : (m : List ℕ) (n k : ℕ) → k < n → word_at (get_or (first_chunks 4 n m) k []) 0 ≡ word_at m (4 * k)
+word_four m n k h =
+    let z : get_or m (4 * k + 0) 0 ≡ get_or m (4 * k) 0 = ap (λ (i : ℕ). get_or m i 0) (let e : 4 * k + 0 ≡ 4 * k = omega arith in e) in
+    omega (arith, four_at m n k 0 h (omega arith), z, four_at m n k 1 h (omega arith), four_at m n k 2 h (omega arith), four_at m n k 3 h (omega arith))
 
 words_turn : (m : List ℕ) (at : ℕ) → at + 4 ≤ length m → words_from at (drop at m) ≡ kept (has_line (word_at m at) (drop (at + 4) m)) (record { address = at; word = word_at m at }) (words_from (at + 4) (drop (at + 4) m))
 unfolding words_from

@@ -68,10 +68,10 @@ fn put_words(w: &mut Writer, image: &[u8])
     ensures place { w.new.at ≡ w.old.at + length (lines_text (words_from 0 image.now)) }
     ensures holds { w.new.out.now ≡ over w.old.out.now w.old.at (lines_text (words_from 0 image.now)) }
 {
-    for k in 0..image.len() / 4 {
+    let (words, _) = image.as_chunks::<4>();
+    for (k, &[a, b, c, d]) in words.iter().enumerate() {
         let at = 4 * k;
-        let word = memory::number(image[at], image[at + 1], image[at + 2], image[at + 3]);
-        put_word(w, at as u32, word, &image[at + 4..]);
+        put_word(w, at as u32, memory::number(a, b, c, d), &image[at + 4..]);
     }
 }
 

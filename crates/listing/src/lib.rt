@@ -14,7 +14,7 @@ use names::name_of;
 use text::{cut, read_value};
 
 // Why a list is turned back, by the numbers of the rules.
-#[derive(Clone, Copy, PartialEq, Eq, Debug)]
+#[derive(Clone, Copy)]
 pub enum Reason {
     TooLong = 1,
     Names = 2,
@@ -132,5 +132,5 @@ pub fn too_long(list: &[u8]) -> bool
 pub fn has_names(list: &[u8]) -> bool
     ensures { result ≡ has_names list.now }
 {
-    text::has(list, b'\n') && text::same(text::until(list, b'\n'), b"op,a,b,c")
+    cut(list, b'\n').is_some_and(|(line, _)| text::same(line, b"op,a,b,c"))
 }

@@ -11,7 +11,7 @@ use mathlib.Core.Logic.{◌⊎◌, inl, inr, ⊎_elim}
 use lib.ListN.{length, drop, get_or, drop_of_length-le}
 use lib.Dec.{ltb, leb, lit<}
 use lib.Seq.{drop-cons}
-use borrow.Author.Tests.{ne_eqb, eqb-false, lt-ltb, le-ltb, le-leb, lt-leb, ltb-true, leb-true, leb-false, not-true}
+use borrow.Author.Tests.{ne_eqb, eq-eqb, eqb-false, lt-ltb, le-ltb, le-leb, lt-leb, ltb-true, leb-true, leb-false, not-true}
 use Rattle.std.specs.Prelude.{Some, None}
 use Rattle.text.specs.Split.{has}
 use Rattle.text.specs.Hex.{digit, digit_of, digits, glyph, number, lean, spelled, value_of, spell, hex_of}
@@ -87,6 +87,13 @@ value_digits s h = rw h (go (leb (length s) 8) (lean s))
 pub value_good : (s : List ℕ) → length s ≤ 8 → lean s ≡ true → digits s ≡ true → Some (number 0 s) ≡ value_of s
 unfolding value_of spelled
 value_good s h k d = rw (le-leb _ _ h, k, d)
+
+-- a `0` in front of others
+pub lean_zero : (s : List ℕ) → 1 < length s → get_or s 0 0 ≡ 48 → lean s ≡ false
+unfolding lean
+lean_zero [] h e = absurd (omega arith)
+lean_zero (x ∷ []) h e = absurd (omega arith)
+lean_zero (x ∷ y ∷ ys) h e = rw (eq-eqb _ _ e)
 
 -- a test and what it says
 below : (a b : ℕ) → (a < b) ⊎ (b ≤ a)

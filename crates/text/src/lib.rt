@@ -1,5 +1,5 @@
-// Bytes taken apart at a separator, compared, read and written as hexadecimal numbers, and put into a lent buffer. Every function
-// is total: what does not parse, and what does not fit, is an answer.
+// Bytes taken apart at a separator, compared, read and written as hexadecimal numbers, and put into a lent buffer. Every public function
+// is total: what does not parse is an answer; what does not fit is not written, and the place in the buffer stays.
 #![tactic(auto)]
 
 ghost use Rattle.std.specs.Prelude.{◌≡◌, ◌<◌, false, length, position, ◌==◌, true, MatchOption};
