@@ -36,8 +36,8 @@ fn note_pages<F: Fn(usize) -> Outcome>(global: u32, pages: &mut [u32], found: F)
     requires { (i : ℕ) → i < length pages.old → F.pre found i }
     ensures { (f : ℕ → Outcome) → Finds (F.post found) (length pages.old) f → pages.new ≡ map_words (note_found f global) pages.old }
 {
-    for i in 0..pages.len() {
-        pages[i] = add_outcome(global, pages[i], found(i));
+    for (i, w) in pages.iter_mut().enumerate() {
+        *w = add_outcome(global, *w, found(i));
     }
 }
 
@@ -107,8 +107,6 @@ fn note_in(window: u32, m: &[u8], tables: Tables, global: u32, track: &mut [u32]
     }
 }
 
-// Most notings change nothing. To see that, both rows are read together, which is quicker than to write each.
-
 // Whether noting what the walk of its page found leaves its words in a context's row and in the global row as they are.
 fn stays(own: u32, shared: u32, o: Outcome) -> bool
     ensures { result ≡ true → Stays own shared o }
@@ -141,17 +139,17 @@ fn mib_settled(m: &[u8], at: usize, own: &[u32], shared: &[u32]) -> bool
     requires one_mib { length own.now ≤ mib_pages }
     ensures { result ≡ true → Both (note_mib m.now at) own.now shared.now }
 {
-    if let Some(x) = load(m, at, Size::Four) {
-        return match first_of(x, 0) {
-            Ok(FirstLevel::Section(_)) => pages_settled(own, shared, |i| Ok(section_entry(x, i))),
-            Ok(FirstLevel::Table(table)) => {
-                let n = words_inside(m, table.base as usize, own.len());
-                pages_settled(&own[..n], &shared[..n], |i| table_page(m, table, i))
-            }
-            Err(_) => true,
-        };
+    let Some(x) = load(m, at, Size::Four) else {
+        return true;
+    };
+    match first_of(x, 0) {
+        Ok(FirstLevel::Section(_)) => pages_settled(own, shared, |i| Ok(section_entry(x, i))),
+        Ok(FirstLevel::Table(table)) => {
+            let n = words_inside(m, table.base as usize, own.len());
+            pages_settled(&own[..n], &shared[..n], |i| table_page(m, table, i))
+        }
+        Err(_) => true,
     }
-    true
 }
 
 // Whether noting leaves a context's row and the global row as they are.
@@ -169,18 +167,20 @@ fn rows_settled(m: &[u8], tables: Tables, own: &[u32], shared: &[u32]) -> bool
     true
 }
 
-// Whether noting leaves a track as it is; false also where it lacks one of the two rows.
+// Whether noting leaves a track as it is; false also where it lacks one of the two rows. Most notings change nothing. To see that, both
+// rows are read together, which is quicker than to write each.
 #[tactic(auto, unfolding(model::specs::step::Rows::in_row))]
 fn is_settled(window: u32, m: &[u8], tables: Tables, track: &[u32], context: usize) -> bool
     ensures { result ≡ true → track.now ≡ note_track window m.now tables context track.now }
 {
     let last = last_row(window, track.len());
-    if let Some(own) = row_range(window, context, track.len()) {
-        if let Some(shared) = row_range(window, last, track.len()) {
-            return rows_settled(m, tables, &track[own], &track[shared]);
-        }
-    }
-    false
+    let (Some(own), Some(shared)) = (
+        row_range(window, context, track.len()),
+        row_range(window, last, track.len()),
+    ) else {
+        return false;
+    };
+    rows_settled(m, tables, &track[own], &track[shared])
 }
 
 // Notes the row of a context, where the track has it, then the global row.

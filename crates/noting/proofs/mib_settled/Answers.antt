@@ -33,7 +33,7 @@ returns-in-Err c = let a = c.args in
     let says = sym c.in-Err.is ∙ c.first_of.ensures.same in
     λ h. record { in_own = by_fault a.m.now a.at 0 c.in-Some.x a.own.now _ read says; in_shared = by_fault a.m.now a.at 1 c.in-Some.x a.shared.now _ read says }
 
-pub returns : goal.returns
-returns c = let a = c.args in
+pub returns-in_default : goal.returns-in_default
+returns-in_default c = let a = c.args in
     let none = sym c.in_default.is ∙ c.load.ensures in
     λ h. record { in_own = by_none a.m.now a.at 0 a.own.now none; in_shared = by_none a.m.now a.at 1 a.shared.now none }
