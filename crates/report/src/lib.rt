@@ -97,7 +97,7 @@ fn whole(m: &mut [u8], t: &mut [u32], list: &[u8], out: &mut [u8]) -> usize
 }
 
 // Writes the report of an image buffer of which n bytes were read and a list buffer of which k were, and answers how long it is. `image` and `track` hold
-// memory and track afterwards, and `out` holds the report in front of what it held.
+// memory and track afterwards, and `out` holds the report in front of what it held. A count above its buffer has an answer, so each buffer goes with its count.
 #[tactic(auto, unfolding(crate::specs::Report::called), using(crate::proofs::ReportLaws::gives_report, crate::proofs::ShownLaws::report_fits))]
 pub fn write_report(
     image: &mut [u8],
