@@ -9,12 +9,5 @@ one_field : (i w : ℕ) → i < 16 → fields_fit (16 - i) w ≡ cond (eqb (w % 
 unfolding fields_fit
 one_field i w h = ap (λ n. fields_fit n w) (let q : 16 - i ≡ suc (16 - (i + 1)) = omega (arith, h) in q)
 
-pub loop-init : goal.loop-init
-unfolding domains_fit
-loop-init c = refl
-
-pub returns-then-rest-eq2 : goal.returns-then-rest-eq2
-returns-then-rest-eq2 c = sym (one_field c.loop.counter c.loop.rest c.loop-test.true ∙ rw (eq-eqb _ 2 c.if-rest-eq2.true)) ∙ c.loop.invariant
-
 pub loop-preserved : goal.loop-preserved
 loop-preserved c = sym (one_field c.loop.counter c.loop.rest c.loop-test.true ∙ rw (ne_eqb _ 2 c.if-rest-eq2.false)) ∙ c.loop.invariant
