@@ -58,7 +58,7 @@ four_set m at a b c d h =
     ∙ one_more m at 3 (at + 2 + 1) (a ∷ b ∷ c ∷ []) d refl (omega arith) (omega (arith, h))
 
 -- the low bytes of v in place of those that stood there
-stored_by : (s : Size) (m : List ℕ) (at v : ℕ) → at + bytes_of s ≤ length m → put_mid at (bytes_of s) m (take (bytes_of s) (to_le_bytes w32 v)) ≡ stored_at s m at v
+pub stored_by : (s : Size) (m : List ℕ) (at v : ℕ) → at + bytes_of s ≤ length m → put_mid at (bytes_of s) m (take (bytes_of s) (to_le_bytes w32 v)) ≡ stored_at s m at v
 stored_by One m at v h = sym (one_set m at _ (omega (arith, h)))
 stored_by Two m at v h = sym (two_set m at _ _ (omega (arith, h)))
 stored_by Four m at v h =
