@@ -111,6 +111,14 @@ fn glyph(d: u32) -> u8
     if d < 10 { 48 + d as u8 } else { 87 + d as u8 }
 }
 
+// Whether `room` bytes are left in a buffer from place `at` on.
+#[tactic(auto, unfolding(crate::specs::Put::has_room))]
+pub fn has_room(out: &[u8], at: usize, room: usize) -> bool
+    ensures { result ≡ has_room room out.now at }
+{
+    at <= out.len() && room <= out.len() - at
+}
+
 // A lent buffer, and the place in it that is written next.
 #[derive(Drop)]
 pub struct Writer<'a> {
@@ -129,11 +137,10 @@ impl<'a> Writer<'a> {
     }
 
     // Whether `room` bytes are left.
-    #[tactic(auto, unfolding(crate::specs::Put::has_room))]
     pub fn has_room(&self, room: usize) -> bool
         ensures { result ≡ has_room room self.now.out.now self.now.at }
     {
-        self.at <= self.out.len() && room <= self.out.len() - self.at
+        has_room(self.out, self.at, room)
     }
 
     // Puts text, and steps behind it. Where it does not fit, nothing is written and the place stays.
