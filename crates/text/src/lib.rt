@@ -32,7 +32,7 @@ pub fn cut(s: &[u8], b: u8) -> Option<(&[u8], &[u8])>
 }
 
 // Whether b stands in s.
-#[tactic(auto, using(crate::proofs::SplitLaws::has_any))]
+#[tactic(auto, using(crate::proofs::SplitLaws::has_any, crate::proofs::SplitLaws::has_place))]
 pub fn has(s: &[u8], b: u8) -> bool
     ensures { result ≡ has b s.now }
 {
@@ -57,7 +57,7 @@ pub fn past(s: &[u8], b: u8) -> &[u8]
 }
 
 // Whether two slices hold the same bytes.
-#[tactic(auto, using(crate::proofs::SplitLaws::same_pointwise))]
+#[tactic(auto, using(crate::proofs::SplitLaws::same_pointwise, crate::proofs::SplitLaws::same_prefix, crate::proofs::SplitLaws::differ))]
 pub fn same(a: &[u8], b: &[u8]) -> bool
     ensures { result ≡ same a.now b.now }
 {
@@ -119,6 +119,14 @@ pub fn has_room(out: &[u8], at: usize, room: usize) -> bool
     at <= out.len() && room <= out.len() - at
 }
 
+// Copies text over a part of a buffer that is as long.
+fn copy(part: &mut [u8], text: &[u8])
+    requires { length part.old ≡ length text.now }
+    ensures { part.new ≡ text.now }
+{
+    part.copy_from_slice(text);
+}
+
 // A lent buffer, and the place in it that is written next.
 #[derive(Drop)]
 pub struct Writer<'a> {
@@ -152,7 +160,7 @@ impl<'a> Writer<'a> {
     {
         if self.has_room(text.len()) {
             let end = self.at + text.len();
-            self.out[self.at..end].copy_from_slice(text);
+            copy(&mut self.out[self.at..end], text);
             self.at = end;
         }
     }
