@@ -119,12 +119,14 @@ pub fn has_room(out: &[u8], at: usize, room: usize) -> bool
     at <= out.len() && room <= out.len() - at
 }
 
-// Copies text over a part of a buffer that is as long.
+// Copies text over a part of a buffer that is as long. By `copy_from_slice` the C archive would need the name `memmove` from outside.
 fn copy(part: &mut [u8], text: &[u8])
     requires { length part.old ≡ length text.now }
     ensures { part.new ≡ text.now }
 {
-    part.copy_from_slice(text);
+    for i in 0..text.len() {
+        part[i] = text[i];
+    }
 }
 
 // A lent buffer, and the place in it that is written next.
