@@ -43,7 +43,7 @@ fn note_pages<F: Fn(usize) -> Outcome>(global: u32, pages: &mut [u32], found: F)
     }
 }
 
-// The word at `at`, which lies in memory.
+// The word at `at`, which lies in memory. Read by itself, it is one load.
 fn word(m: &[u8], at: usize) -> u32
     requires { at + 4 ≤ length m.now }
     ensures { result ≡ number_at Four m.now at }

@@ -119,7 +119,8 @@ pub fn has_room(out: &[u8], at: usize, room: usize) -> bool
     at <= out.len() && room <= out.len() - at
 }
 
-// Copies text over a part of a buffer that is as long. By `copy_from_slice` the C archive would need the name `memmove` from outside.
+// Copies text over a part of a buffer that is as long. By `copy_from_slice` the archive of
+// `list_report` would need the name `memmove` from outside.
 fn copy(part: &mut [u8], text: &[u8])
     requires { length part.old ≡ length text.now }
     ensures { part.new ≡ text.now }

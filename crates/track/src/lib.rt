@@ -36,7 +36,9 @@ pub fn add_entry(global: u32, w: u32, v: u32) -> u32
 pub fn empty_row(row: &mut [u32])
     ensures { row.new ≡ empty_row row.old }
 {
-    row.fill(0);
+    for p in 0..row.len() {
+        row[p] = 0;
+    }
 }
 
 // Empties the set of one page of a row.
