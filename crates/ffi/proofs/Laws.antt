@@ -1,13 +1,27 @@
--- Kinds and their numbers.
+-- Kinds and their numbers, and the registers of a call.
 use Prim.Native.Nat.{ℕ, ◌<◌}
-use mathlib.Core.Path.{◌≡◌, refl}
-use lib.Dec.{eqb}
+use mathlib.Core.Path.{◌≡◌, refl, sym}
+use mathlib.Core.Bool.{Bool, true, false, cond, true≢false}
+use mathlib.Core.List.{List}
+use lib.Dec.{eqb, ltb}
+use lib.ListN.{length, get_or}
 use borrow.Author.Tests.{eqb-true}
 use Rattle.model.proofs.BoolLaws.{all_below, at_each}
 use Rattle.model.specs.Numbers.{kind_number}
 use Rattle.model.specs.declared.Kind.{Kind}
 use Rattle.model.specs.declared.Kind.TheVariants.{Read, Write, Root, Asid, Mode, All, Addr, Ctx, AddrCtx, Fetch, Domain}
-use Rattle.ffi.specs.Words.{kind_from, KindNumbers}
+use Rattle.ffi.specs.Words.{kind_from, KindNumbers, are_words}
+
+-- where the words are those of an operation and of registers, the registers are four
+module _ (o r m t : List ℕ) where
+  pub four : are_words o r ≡ true → length r ≡ 4
+  unfolding are_words
+  four w = go (eqb (length o) 4) (eqb (length r) 4) refl w
+    where
+      go : (a b : Bool) → eqb (length r) 4 ≡ b → cond a (cond b (ltb (get_or o 0 0) 11) false) false ≡ true → length r ≡ 4
+      go true true e p = eqb-true (length r) 4 e
+      go true false e p = absurd (true≢false (sym p))
+      go false b e p = absurd (true≢false (sym p))
 
 -- the kind with a number below 11 has that number: one test over the eleven
 kind_back : (n : ℕ) → n < 11 → kind_number (kind_from n) ≡ n

@@ -83,12 +83,12 @@ pub fn row_range(window: u32, row: usize, n: usize) -> Option<Range<usize>>
 }
 
 // Whether n words can be a track.
-#[tactic(auto, unfolding(model::specs::step::Checks::track_fits))]
+#[tactic(auto, unfolding(model::specs::step::Rows::row_start, model::specs::step::Checks::track_fits))]
 pub fn track_fits(window: u32, n: usize) -> bool
     ensures { result ≡ track_fits window n }
 {
     let k = rows(window, n);
-    k * row_size(window) == n && (2..=257).contains(&k) // contexts_most + 1
+    row_start(window, k, n) == n && (2..=257).contains(&k) // contexts_most + 1
 }
 
 // The number of the last row of n words: the global row of a track, and how many contexts it has.

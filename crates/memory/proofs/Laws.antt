@@ -1,18 +1,18 @@
--- What the test of `store` says of the definitions.
+-- What the tests of `load` and `store` say of the definitions.
 use Prim.Native.Nat.{ℕ, ◌+◌, ◌*◌, ◌≤◌, ◌<◌, ◌-◌, ◌/◌, ◌%◌}
 use native.Mathlib.Omega.{arith}
-use lib.Dec.{lit<, ltb, leb}
+use lib.Dec.{lit<}
 use Rattle.std.specs.Int.{w32, to_le_bytes}
 use Rattle.model.specs.declared.Size.TheVariants.{One, Two, Four}
 use mathlib.Core.Path.{◌≡◌, refl, sym, ap, ◌∙◌}
 use mathlib.Core.List.{List, [], ◌∷◌, ◌++◌}
-use mathlib.Core.Bool.{Bool, true, false}
+use mathlib.Core.Bool.{true}
 use lib.ListN.{length, length-set, get_or, set, take}
 use borrow.Rule.Slice.PartMut.{put_mid}
 use Rattle.std.proofs.lemmas.List.{same_lists, places, get_or-set_same, take-append-drop}
 use Rattle.std.proofs.lemmas.Bool.{cases_eq}
 use Rattle.std.proofs.Common.{rules}
-use borrow.Author.Tests.{leb-true, leb-false, lt-ltb, le-ltb}
+use borrow.Author.Tests.{leb-true}
 use Rattle.model.specs.declared.Size.{Size}
 use Rattle.model.specs.step.Memory.{bytes_of, number_at, stored_at, within, written_at}
 
@@ -29,15 +29,6 @@ pub bytes_pos : (s : Size) → 0 < bytes_of s
 bytes_pos One = lit< tt
 bytes_pos Two = lit< tt
 bytes_pos Four = lit< tt
-
--- behind the first of n bytes is room for the rest
-pub room : (size : Size) (m : List ℕ) (at : ℕ) → ltb at (length m - (bytes_of size - 1)) ≡ within size m at
-unfolding within
-room size m at = go (leb (at + bytes_of size) (length m)) refl
-  where
-    go : (b : Bool) → leb (at + bytes_of size) (length m) ≡ b → ltb at (length m - (bytes_of size - 1)) ≡ b
-    go true e = lt-ltb _ _ (omega (arith, bytes_pos size, leb-true _ _ e))
-    go false e = le-ltb _ _ (omega (arith, bytes_pos size, leb-false _ _ e))
 
 -- one byte more behind the k bytes ys that were stored from `at`
 one_more : (m : List ℕ) (at k i : ℕ) (ys : List ℕ) (y : ℕ) → length ys ≡ k → i ≡ at + k → i < length m → set (put_mid at k m ys) i y ≡ put_mid at (k + 1) m (ys ++ y ∷ [])
@@ -58,7 +49,7 @@ four_set m at a b c d h =
     ∙ one_more m at 3 (at + 2 + 1) (a ∷ b ∷ c ∷ []) d refl (omega arith) (omega (arith, h))
 
 -- the low bytes of v in place of those that stood there
-stored_by : (s : Size) (m : List ℕ) (at v : ℕ) → at + bytes_of s ≤ length m → put_mid at (bytes_of s) m (take (bytes_of s) (to_le_bytes w32 v)) ≡ stored_at s m at v
+pub stored_by : (s : Size) (m : List ℕ) (at v : ℕ) → at + bytes_of s ≤ length m → put_mid at (bytes_of s) m (take (bytes_of s) (to_le_bytes w32 v)) ≡ stored_at s m at v
 stored_by One m at v h = sym (one_set m at _ (omega (arith, h)))
 stored_by Two m at v h = sym (two_set m at _ _ (omega (arith, h)))
 stored_by Four m at v h =

@@ -21,34 +21,42 @@ pub fn bytes(size: Size) -> usize
 }
 
 // Whether the bytes of this size from `at` lie in memory: behind the first of them is room for the rest.
+#[tactic(auto, unfolding(model::specs::step::Memory::within), using(crate::proofs::Laws::bytes_pos))]
 pub fn inside(m: &[u8], at: usize, size: Size) -> bool
     ensures { result ≡ within size m.now at }
 {
     let rest = bytes(size) - 1;
-    at < m.len().saturating_sub(rest)
+    rest <= m.len() && at < m.len() - rest
 }
 
 // The number of this size at `at`, if it lies in memory.
-#[tactic(auto, unfolding(model::specs::step::Memory::load_at, model::specs::step::Memory::within))]
+#[tactic(auto, unfolding(model::specs::step::Memory::load_at), using(crate::proofs::Laws::fits))]
 pub fn load(m: &[u8], at: usize, size: Size) -> Option<u32>
     ensures { result ≡ load_at size m.now at }
 {
-    match (size, m.get(at..)?) {
-        (Size::One, &[a, ..]) => Some(a as u32),
-        (Size::Two, &[a, b, ..]) => Some(u16::from_le_bytes([a, b]) as u32),
-        (Size::Four, &[a, b, c, d, ..]) => Some(number(a, b, c, d)),
-        _ => None,
+    if !inside(m, at, size) {
+        return None;
+    }
+    match size {
+        Size::One => Some(m[at] as u32),
+        Size::Two => Some(u16::from_le_bytes([m[at], m[at + 1]]) as u32),
+        Size::Four => Some(number(m[at], m[at + 1], m[at + 2], m[at + 3])),
     }
 }
 
 // Stores the low bytes of v, and says whether they lie in memory.
+#[tactic(auto, unfolding(model::specs::step::Memory::written_at), using(crate::proofs::Laws::fits, crate::proofs::Laws::stored_by))]
 pub fn store(m: &mut [u8], at: usize, size: Size, v: u32) -> bool
     ensures { (result ≡ within size m.old at) × (m.new ≡ written_at size m.old at v) }
 {
     if !inside(m, at, size) {
         return false;
     }
-    let n = bytes(size);
-    m[at..at + n].copy_from_slice(&v.to_le_bytes()[..n]);
+    let [a, b, c, d] = v.to_le_bytes();
+    match size {
+        Size::One => m[at] = a,
+        Size::Two => m[at..at + 2].copy_from_slice(&[a, b]),
+        Size::Four => m[at..at + 4].copy_from_slice(&[a, b, c, d]),
+    }
     true
 }

@@ -1,4 +1,5 @@
-// The names of the operations: one function compares with them, one writes them, and both are tied to one definition.
+// The names of the operations: one function compares with them, one gives them, and what puts a name writes what that one gives. All are
+// tied to one definition.
 #![tactic(auto)]
 
 ghost use Rattle.std.specs.Prelude.{◌≡◌};

@@ -5,6 +5,8 @@
 
 ghost use Rattle.std.specs.Prelude.{◌≡◌, ℕ, true, ◌+◌, ◌-◌, ◌*◌, ◌/◌, ◌<◌, ◌≤◌, min, length};
 ghost use Rattle.model.specs.Limits.{row_size};
+ghost use Rattle.model.specs.declared.Size.TheVariants.{Four};
+ghost use Rattle.model.specs.step.Memory.{number_at};
 ghost use Rattle.model.specs.step.Rows.{map_words, in_row};
 ghost use Rattle.model.specs.Types.{Outcome};
 ghost use Rattle.model.specs.step.Walk.{second_at};
@@ -41,6 +43,14 @@ fn note_pages<F: Fn(usize) -> Outcome>(global: u32, pages: &mut [u32], found: F)
     }
 }
 
+// The word at `at`, which lies in memory. Read by itself, it is one load.
+fn word(m: &[u8], at: usize) -> u32
+    requires { at + 4 ≤ length m.now }
+    ensures { result ≡ number_at Four m.now at }
+{
+    number(m[at], m[at + 1], m[at + 2], m[at + 3])
+}
+
 // What a table says of page i of its MiB, whose descriptor lies in memory.
 #[tactic(auto, using(crate::proofs::Mib::table_word))]
 fn table_page(m: &[u8], table: Pointer, i: usize) -> Outcome
@@ -49,8 +59,7 @@ fn table_page(m: &[u8], table: Pointer, i: usize) -> Outcome
     ensures { result ≡ second_at m.now table i }
 {
     let at = table.base as usize + 4 * i;
-    let w = number(m[at], m[at + 1], m[at + 2], m[at + 3]);
-    second_of(w, i, table.domain)
+    second_of(word(m, at), i, table.domain)
 }
 
 // How many of the n words from `base` on lie in memory.

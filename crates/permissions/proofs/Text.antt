@@ -1,5 +1,5 @@
 -- The text of a list of answers, line by line.
-use Rattle.std.proofs.Common.{ℕ, ◌+◌, ◌*◌, ◌<◌, ◌≡◌, List, [], ◌∷◌, ◌++◌, length, length-set, append_assoc, set, take, take_all, refl, sym, ap, ◌∙◌, arith}
+use Rattle.std.proofs.Common.{ℕ, zero, suc, ◌+◌, ◌*◌, ◌<◌, ◌≡◌, List, [], ◌∷◌, ◌++◌, get_or, length, length-set, append_assoc, set, take, take_all, refl, sym, ap, ◌∙◌, arith}
 use Rattle.std.proofs.lemmas.Grind.{take-set_at}
 use Rattle.std.proofs.lemmas.List.{take_more}
 use Rattle.permissions.specs.Sheet.{answers, answer_at, lines_of, sheet}
@@ -23,3 +23,36 @@ pub all_lines : (out : List ℕ) (k : ℕ) → length out ≡ 768 → k ≡ 384 
 unfolding sheet
 all_lines out k long e written =
     sym (take_all (2 * k) out (omega arith)) ∙ written ∙ ap lines_of (take_all k answers (omega (arith, answers_many)))
+
+lines_many : (xs : List ℕ) → length (lines_of xs) ≡ 2 * length xs
+unfolding lines_of
+lines_many [] = refl
+lines_many (x ∷ xs) = omega (arith, lines_many xs)
+
+-- line k, counted from 0: a digit, then a newline
+line_digit : (xs : List ℕ) (k z d : ℕ) → k < length xs → get_or (lines_of xs) (2 * k) z ≡ 48 + get_or xs k d
+unfolding lines_of
+line_digit [] k z d h = absurd (let e : ⊥ = omega arith in e)
+line_digit (x ∷ xs) zero z d h = refl
+line_digit (x ∷ xs) (suc k) z d h =
+    ap (λ (n : ℕ). get_or (lines_of (x ∷ xs)) n z) (let e : 2 * suc k ≡ suc (suc (2 * k)) = omega arith in e) ∙ line_digit xs k z d (omega arith)
+
+line_end : (xs : List ℕ) (k z : ℕ) → k < length xs → get_or (lines_of xs) (2 * k + 1) z ≡ 10
+unfolding lines_of
+line_end [] k z h = absurd (let e : ⊥ = omega arith in e)
+line_end (x ∷ xs) zero z h = refl
+line_end (x ∷ xs) (suc k) z h =
+    ap (λ (n : ℕ). get_or (lines_of (x ∷ xs)) n z) (let e : 2 * suc k + 1 ≡ suc (suc (2 * k + 1)) = omega arith in e) ∙ line_end xs k z (omega arith)
+
+-- the bytes of the sheet
+pub sheet_many : length sheet ≡ 768
+unfolding sheet
+sheet_many = omega (arith, lines_many answers, answers_many)
+
+pub sheet_digit : (k z : ℕ) → k < 384 → get_or sheet (2 * k) z ≡ 48 + answer_at k
+unfolding sheet answer_at
+sheet_digit k z h = line_digit answers k z 3 (omega (arith, answers_many))
+
+pub sheet_end : (k z : ℕ) → k < 384 → get_or sheet (2 * k + 1) z ≡ 10
+unfolding sheet
+sheet_end k z h = line_end answers k z (omega (arith, answers_many))

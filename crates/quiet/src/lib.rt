@@ -35,11 +35,14 @@ fn touches_mib(m: &[u8], first: usize, at: usize, n: usize) -> bool
     load(m, first, Size::Four).is_some_and(|w| touches_table(first_of(w, 0), at, n))
 }
 
-// Whether they touch the table of one of the first `mibs` MiB.
+// Whether they touch the table of one of the first `mibs` MiB, the last of which is looked at first.
 fn touches_tables(m: &[u8], tables: Tables, mibs: u32, at: usize, n: usize) -> bool
     ensures { result ≡ touches_tables m.now tables mibs at n }
 {
-    (0..mibs).any(|i| touches_mib(m, tables.root as usize + 4 * i as usize, at, n))
+    (0..mibs).any(|i| {
+        let mib = (mibs - 1 - i) as usize;
+        touches_mib(m, tables.root as usize + 4 * mib, at, n)
+    })
 }
 
 // Whether a store of this size at `at` is quiet: it touches no level-one word of the window, and none of these tables.

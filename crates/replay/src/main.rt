@@ -2,7 +2,7 @@
 // on standard error; a file that was not read to its end gives no report.
 #![tactic(auto)]
 
-ghost use Rattle.std.specs.Prelude.{IfOk};
+ghost use Rattle.std.specs.Prelude.{IfOk, IfErr};
 ghost use Rattle.std.specs.Counts.{IsPrefixLen};
 
 use input::Got;
@@ -11,7 +11,8 @@ use std::io::Read;
 
 // How many bytes the list has. It is read only after a start that is accepted.
 fn read_list<R: Read>(wanted: bool, list: &mut R, buf: &mut [u8]) -> Result<usize, Got>
-    ensures { IfOk result (λ count. IsPrefixLen count buf.new) }
+    ensures whole { IfOk result (λ count. IsPrefixLen count buf.new) }
+    ensures part { IfErr result (λ got. IsPrefixLen got.count buf.new) }
 {
     if !wanted {
         return Ok(0);

@@ -1,5 +1,4 @@
 -- Laws of the report, and its settings.
-pub mod Pieces
 pub mod LinesLaws
 pub mod Running
 pub mod ReportLaws

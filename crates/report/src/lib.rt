@@ -44,8 +44,10 @@ fn lines(r: Registers, m: &mut [u8], t: &mut [u32], list: &[u8], w: &mut Writer)
     ensures ran { Ran (replayed 2 (record { answer = Done 0; registers = r; memory = m.old; track = t.old }) (read_lines (length list.now) 2 list.now)) w.old.out.now w.old.at w.new.at m.new t.new w.new.out.now }
 {
     let mut regs = r;
-    for (line, text) in (2..).zip(list.split_inclusive(|x| *x == b'\n')) {
-        match listing::read_line(text) {
+    let mut left = list;
+    let mut line: u32 = 2;
+    while 0 < left.len() {
+        match listing::read_line(left) {
             Ok(o) => {
                 let y = run_step::step(o, regs, m, t);
                 regs = y.registers;
@@ -53,6 +55,8 @@ fn lines(r: Registers, m: &mut [u8], t: &mut [u32], list: &[u8], w: &mut Writer)
             }
             Err(x) => return report_line::put_refusal(w, line, listing::list_number(x)),
         }
+        left = listing::rest(left);
+        line += 1;
     }
 }
 

@@ -11,7 +11,7 @@ use lib.Seq.{take_all}
 use borrow.Author.Tests.{eq-eqb, eqb-true, lt-ltb, le-ltb, leb-false}
 use Rattle.std.proofs.Common.{Option, Some, None, nat_eq, ◌&&◌, ◌||◌}
 use Rattle.std.specs.Option.{unwrap_or}
-use Rattle.std.specs.List.{position, position_or_len, list_any}
+use Rattle.std.specs.List.{position, position_or_len, list_any, starts_with}
 use Rattle.std.specs.Cmp.Lexicographic.{pointwise}
 use Rattle.std.proofs.lemmas.List.Recursion.{is_position_or_len}
 use Rattle.text.specs.Split.{has, until, past, same}
@@ -214,3 +214,10 @@ same_pointwise (x ∷ xs) (y ∷ ys) = go (same_pointwise xs ys) (eqb x y)
     go : pointwise nat_eq xs ys ≡ same xs ys → (t : Bool) → (t && pointwise nat_eq xs ys) ≡ cond t (same xs ys) false
     go ih true = ih
     go ih false = refl
+
+-- lists of one length, one of which begins the other; and lists of two lengths
+pub same_prefix : (a b : List ℕ) (r : Bool) → r ≡ starts_with nat_eq b a → length a ≡ length b → r ≡ same a b
+same_prefix a b r e h = e ∙ ap (pointwise nat_eq a) (take_all (length a) b (omega (arith, h))) ∙ same_pointwise a b
+
+pub differ : (a b : List ℕ) → (length a ≡ length b → ⊥) → false ≡ same a b
+differ a b ne = sym (same_lengths a b ne)

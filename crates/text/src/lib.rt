@@ -32,7 +32,7 @@ pub fn cut(s: &[u8], b: u8) -> Option<(&[u8], &[u8])>
 }
 
 // Whether b stands in s.
-#[tactic(auto, using(crate::proofs::SplitLaws::has_any))]
+#[tactic(auto, using(crate::proofs::SplitLaws::has_any, crate::proofs::SplitLaws::has_place))]
 pub fn has(s: &[u8], b: u8) -> bool
     ensures { result ≡ has b s.now }
 {
@@ -57,7 +57,7 @@ pub fn past(s: &[u8], b: u8) -> &[u8]
 }
 
 // Whether two slices hold the same bytes.
-#[tactic(auto, using(crate::proofs::SplitLaws::same_pointwise))]
+#[tactic(auto, using(crate::proofs::SplitLaws::same_pointwise, crate::proofs::SplitLaws::same_prefix, crate::proofs::SplitLaws::differ))]
 pub fn same(a: &[u8], b: &[u8]) -> bool
     ensures { result ≡ same a.now b.now }
 {
@@ -111,6 +111,25 @@ fn glyph(d: u32) -> u8
     if d < 10 { 48 + d as u8 } else { 87 + d as u8 }
 }
 
+// Whether `room` bytes are left in a buffer from place `at` on.
+#[tactic(auto, unfolding(crate::specs::Put::has_room))]
+pub fn has_room(out: &[u8], at: usize, room: usize) -> bool
+    ensures { result ≡ has_room room out.now at }
+{
+    at <= out.len() && room <= out.len() - at
+}
+
+// Copies text over a part of a buffer that is as long. By `copy_from_slice` the archive of
+// `list_report` would need the name `memmove` from outside.
+fn copy(part: &mut [u8], text: &[u8])
+    requires { length part.old ≡ length text.now }
+    ensures { part.new ≡ text.now }
+{
+    for i in 0..text.len() {
+        part[i] = text[i];
+    }
+}
+
 // A lent buffer, and the place in it that is written next.
 #[derive(Drop)]
 pub struct Writer<'a> {
@@ -129,11 +148,10 @@ impl<'a> Writer<'a> {
     }
 
     // Whether `room` bytes are left.
-    #[tactic(auto, unfolding(crate::specs::Put::has_room))]
     pub fn has_room(&self, room: usize) -> bool
         ensures { result ≡ has_room room self.now.out.now self.now.at }
     {
-        self.at <= self.out.len() && room <= self.out.len() - self.at
+        has_room(self.out, self.at, room)
     }
 
     // Puts text, and steps behind it. Where it does not fit, nothing is written and the place stays.
@@ -145,7 +163,7 @@ impl<'a> Writer<'a> {
     {
         if self.has_room(text.len()) {
             let end = self.at + text.len();
-            self.out[self.at..end].copy_from_slice(text);
+            copy(&mut self.out[self.at..end], text);
             self.at = end;
         }
     }

@@ -1,2 +1,3 @@
--- Laws of lists of words in rows.
+-- Laws of words, and of lists of words in rows.
+pub mod Words
 pub mod Rows

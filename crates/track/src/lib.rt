@@ -24,12 +24,11 @@ pub fn is_entry(global: u32, w: u32) -> bool
 pub fn add_entry(global: u32, w: u32, v: u32) -> u32
     ensures { result ≡ add_entry global w v }
 {
-    if w == 0 {
-        v
-    } else if w != v && is_entry(global, w) {
-        1
-    } else {
-        w
+    match w {
+        0 => v,
+        _ if w == v => w,
+        _ if is_entry(global, w) => 1,
+        _ => w,
     }
 }
 
@@ -37,7 +36,9 @@ pub fn add_entry(global: u32, w: u32, v: u32) -> u32
 pub fn empty_row(row: &mut [u32])
     ensures { row.new ≡ empty_row row.old }
 {
-    row.fill(0);
+    for p in 0..row.len() {
+        row[p] = 0;
+    }
 }
 
 // Empties the set of one page of a row.

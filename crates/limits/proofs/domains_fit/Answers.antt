@@ -1,7 +1,7 @@
-use Rattle.std.proofs.Common.{◌≡◌, ℕ, suc, ◌+◌, ◌-◌, ◌<◌, ◌/◌, ◌%◌, false, cond, refl, sym, ap, ◌∙◌, arith}
+use Rattle.std.proofs.Common.{◌≡◌, ℕ, suc, ◌+◌, ◌-◌, ◌<◌, ◌/◌, ◌%◌, false, cond, sym, ap, ◌∙◌, arith}
 use lib.Dec.{eqb}
-use borrow.Author.Tests.{eq-eqb, ne_eqb}
-use Rattle.model.specs.step.Checks.{fields_fit, domains_fit}
+use borrow.Author.Tests.{ne_eqb}
+use Rattle.model.specs.step.Checks.{fields_fit}
 use Rattle.limits.proofs.domains_fit.Goals as goal
 
 -- the fields from field i on: the lowest, then the rest
